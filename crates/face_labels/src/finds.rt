@@ -15,7 +15,6 @@ ghost use Rattle.std.specs.Prelude.{
   slice_index,
   take,
 };
-ghost use Rattle.std.specs.List.Sorted.{IsStrictlyIncreasing};
 ghost use Rattle.snap_chains.specs.declared.owner.Owner.{Owner};
 ghost use Rattle.snap_chains.specs.Rounded.{Owned};
 ghost use Rattle.face_rows.specs.Sound.{AreSound};
@@ -112,7 +111,7 @@ pub(crate) fn take_out(
     requires given { All (λ n. n < length edges.now.0) numbers.now }
     requires order { group.from ≤ group.to }
     requires bound { group.to ≤ length numbers.now }
-    requires rising { IsStrictlyIncreasing (keys_of reach.now) }
+    requires reach { IsReach edges.now reach.now }
     requires room { HaveLists edges.now (keys_of reach.now) own.old }
     requires cut { IsCutAt edges.now group.point (drop group.from numbers.now) (take group.from numbers.now) }
     requires own { AreOwn (keys_of reach.now) (λ o. own_of edges.now o numbers.now) own.old }

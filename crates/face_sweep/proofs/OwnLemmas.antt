@@ -1,7 +1,7 @@
 -- The edges of single shapes in a row: where a point is among them, and what one edge more or less changes.
 use Rattle.std.proofs.Common.{◌≡◌, ◌≢◌, ◌⊎◌, inl, inr, ⊎_elim, ℕ, zero, suc, ◌+◌, ◌-◌, ◌*◌, ◌<◌, ◌≤◌, Bool, true, false, not, ◌||◌}
 use Rattle.std.proofs.Common.{List, [], ◌∷◌, ◌++◌, length, get_or, set, take, append_assoc, add-one, Contains}
-use Rattle.std.proofs.Common.{pos, ◌≤ℤ◌, ◌<ℤ◌, refl, sym, ap, subst, ◌∙◌, arith}
+use Rattle.std.proofs.Common.{pos, ◌≤ℤ◌, ◌<ℤ◌, Option, Some, refl, sym, ap, subst, ◌∙◌, arith}
 use Rattle.std.specs.Prelude.{◌%◌, All, nat_eq}
 use Rattle.std.specs.Global.{Vec}
 use Rattle.std.specs.List.{insert}
@@ -24,6 +24,7 @@ use Rattle.std.proofs.lemmas.List.{
 use Rattle.std.proofs.lemmas.List.Elements.{Contains-get_or}
 use Rattle.std.proofs.lemmas.List.Folds.{list_any-append}
 use Rattle.std.proofs.lemmas.List.Kept.{AllPairs-from_increasing}
+use Rattle.lay_point.proofs.BoolLaws.{or-false}
 use Rattle.lay_point.proofs.Signs.{linear}
 use Rattle.lay_point.specs.declared.point.Point.{Point}
 use Rattle.lay_point.specs.Parity.{parity, xor}
@@ -39,7 +40,8 @@ use Rattle.face_rows.specs.Lines.{owners_at}
 use Rattle.face_rows.proofs.OwnerLemmas.{none_before, owner_itself, turn_more}
 use Rattle.face_rows.proofs.Shapes.{same_owner}
 use Rattle.face_sweep.specs.declared.own_rows.OwnRows.{OwnRows}
-use Rattle.face_sweep.specs.OwnRows.{AreOwn, HaveLists, IsCutAt, is_odd, list_at, lists_of, listed_if, own_edge, own_of}
+use Rattle.face_sweep.specs.OwnRows.{AreOwn, HasInserted, HasPutEdge, HasTaken, HasTakenEdge, HaveLists, IsCutAt, IsCutBy}
+use Rattle.face_sweep.specs.OwnRows.{is_odd, list_at, lists_of, listed_if, own_edge, own_of}
 use Rattle.face_sweep.specs.Points.{distance_from}
 use Rattle.face_sweep.specs.Reaches.{key_of, input_number}
 use Rattle.face_sweep.specs.Sides.{is_odd_in}
@@ -233,3 +235,54 @@ module _ (owners : List Owner) (i : ℕ) (d : Owner) (rising : IsRising IsOwnerB
       by_test : (b : Bool) → owner_eq (get_or owners i d) o ≡ b → b ≡ false
       by_test true t = absurd (apart (sym (same_owner (get_or owners i d) o t)))
       by_test false t = refl
+
+-- ---- edges of one owner
+module _ (r : Owned) (n : ℕ) (p : Owner) (alone : owners_at r n ≡ p ∷ []) where
+  pub listed_alone : (o : Owner) → is_owner_listed o (owners_at r n) ≡ owner_eq p o
+  listed_alone o = ap (is_owner_listed o) alone ∙ or-false (owner_eq p o)
+
+  pub listed_itself : is_owner_listed p (owners_at r n) ≡ true
+  listed_itself = listed_alone p ∙ owner_itself p
+
+  own_same : own_edge r p n ≡ n ∷ []
+  own_same = ap (λ b. listed_if b n) listed_itself
+
+  own_other : (o : Owner) → o ≢ p → own_edge r o n ≡ []
+  own_other o apart = ap (λ b. listed_if b n) (listed_alone o) ∙ by_test (owner_eq p o) refl
+    where
+      by_test : (b : Bool) → owner_eq p o ≡ b → listed_if b n ≡ []
+      by_test true t = absurd (apart (sym (same_owner p o t)))
+      by_test false t = refl
+
+  without : (right left : List ℕ) (o : Owner) → o ≢ p → (right ++ own_edge r o n) ++ left ≡ right ++ left
+  without right left o apart = ap (λ l. (right ++ l) ++ left) (own_other o apart) ∙ ap (λ l. l ++ left) (append-nil right)
+
+  untraced_is : (keys : List ℕ) → ((i : ℕ) → i < length keys → get_or keys i 0 ≢ key_of p) → (i : ℕ) (o : Owner) → i < length keys
+      → get_or keys i 0 ≡ key_of o → o ≢ p
+  untraced_is keys none i o less at same = none i less (at ∙ ap key_of same)
+
+  -- of a shape that isn't traced no list changes
+  pub put_untraced : (keys : List ℕ) (point : Option Point) (rows : OwnRows)
+      → ((i : ℕ) → i < length keys → get_or keys i 0 ≢ key_of p) → HasPutEdge r keys point n rows rows
+  put_untraced keys point rows none = λ right left cut h i o less at.
+      h i o less at ∙ sym (without (right o) (left o) o (untraced_is keys none i o less at))
+
+  pub taken_untraced : (keys : List ℕ) (point : Point) (rows : OwnRows)
+      → ((i : ℕ) → i < length keys → get_or keys i 0 ≢ key_of p) → HasTakenEdge r keys point n rows rows
+  taken_untraced keys point rows none = λ right left cut h i o less at.
+      h i o less at ∙ without (right o) (left o) o (untraced_is keys none i o less at)
+
+  -- and of one that is its own list does
+  pub put_alone : (keys : List ℕ) (point : Option Point) (old new : OwnRows) → HasInserted r keys p point n old new
+      → HasPutEdge r keys point n old new
+  put_alone keys point old new put = λ right left cut h.
+      put (λ o. right o ++ left o) (λ o. (right o ++ own_edge r o n) ++ left o) (right p) (left p) refl (cut p)
+      (ap (λ l. (right p ++ l) ++ left p) own_same) (λ o apart. without (right o) (left o) o apart) h
+
+  pub taken_alone : (keys : List ℕ) (point : Point) (old new : OwnRows) → HasTaken r keys p point old new
+      → HasTakenEdge r keys point n old new
+  taken_alone keys point old new taken = λ right left cut h.
+      taken (λ o. (right o ++ own_edge r o n) ++ left o) (λ o. right o ++ left o) (right p) (left p) n
+      (ap (λ l. (right p ++ l) ++ left p) own_same)
+      (subst (λ l. IsCutBy r (Some point) (right p ++ l) (left p)) own_same (cut p)) refl
+      (λ o apart. sym (without (right o) (left o) o apart)) h

@@ -1,10 +1,10 @@
 -- Boxes round the edges of shapes, which grow.
 use Rattle.std.proofs.Common.{◌≡◌, ℕ, ◌+◌, ◌<◌, Bool, true, false, ◌||◌, List, [], ◌∷◌, Some, length, get_or, set, take}
-use Rattle.std.proofs.Common.{refl, sym, ap, subst, ◌∙◌}
+use Rattle.std.proofs.Common.{refl, sym, ap, subst, ◌∙◌, arith}
 use Rattle.std.specs.Prelude.{nat_eq, slice_get}
 use Rattle.std.proofs.Math.ListN.{length-set}
 use Rattle.std.proofs.lemmas.Bool.Decides.{Decides-eqb}
-use Rattle.std.proofs.lemmas.List.{get_or-set_other, get_or-set_same, take_more}
+use Rattle.std.proofs.lemmas.List.{get_or-set_other, get_or-set_same, get_or_default, take_more}
 use Rattle.std.proofs.lemmas.List.Folds.{list_any-append}
 use Rattle.std.proofs.lemmas.Option.{get_or_from_slice_get, slice_get-get_or, slice_get_within}
 use Rattle.lay_point.specs.declared.point.Point.{Point}
@@ -17,8 +17,11 @@ use Rattle.snap_chains.specs.declared.owner.Owner.{Owner}
 use Rattle.snap_chains.specs.Owners.{owner_eq}
 use Rattle.snap_chains.specs.Rounded.{Owned, is_owner_listed}
 use Rattle.face_sweep.specs.declared.boxes.Boxes.{Boxes}
-use Rattle.face_rows.specs.Lines.{edge_at}
-use Rattle.face_sweep.specs.Reaches.{HaveGrown, IsEdgeIn, IsEnclosed, IsInBoxes, box_list, extent_of}
+use Rattle.face_sweep.specs.declared.reach.Reach.{Reach}
+use Rattle.face_sweep.specs.declared.turns.Turn.{Turn}
+use Rattle.face_sweep.specs.declared.turns.Turn.TheVariants.{Sought}
+use Rattle.face_rows.specs.Lines.{edge_at, owners_at}
+use Rattle.face_sweep.specs.Reaches.{HaveGrown, IsEdgeIn, IsEnclosed, IsInBoxes, IsReach, IsTurnOf, box_list, extent_of, keys_of}
 use Rattle.face_rows.proofs.Shapes.{same_owner}
 
 -- ---- boxes that grow
@@ -104,3 +107,11 @@ boxes_more old new owners i d edge less grown here so_far o extent listed e =
     by_tests false true s t h =
         here extent (subst (λ p. extent_of new p ≡ Some extent) (sym (same_owner (get_or owners i d) o t)) e)
     by_tests false false s t h = absurd cc
+
+-- ---- what is told of an edge
+pub turn_at : (r : Owned) (reach : Reach) (n : ℕ) (kept turn : Turn) → IsReach r reach → n < length r.0
+    → kept ≡ get_or reach.turns.items n kept → kept ≡ turn
+    → IsTurnOf (owners_at r n) (edge_at r n) reach.boxes (keys_of reach) turn
+turn_at r reach n kept turn h given is at =
+    subst (IsTurnOf (owners_at r n) (edge_at r n) reach.boxes (keys_of reach))
+    (sym (get_or_default reach.turns.items n kept Sought (omega (arith, h.turns.count, given))) ∙ sym is ∙ at) (h.turns.each n given)

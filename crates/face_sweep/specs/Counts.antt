@@ -26,3 +26,12 @@ pub record AreCounts (counts : Counts) (holds : Owner → Bool) : Type 0 where
 -- they are counts of shapes of which this one is, or isn't
 abbrev pub CountOwner : Counts → Owner → Bool → Type 0
 CountOwner counts owner inside = (holds : Owner → Bool) × AreCounts counts holds × (holds owner ≡ inside)
+
+-- the shape of the input that has this number
+abbrev pub nth_shape : Input → ℕ → Owner
+nth_shape input shape = record { input = input; shape = shape }
+
+-- they are counts of shapes of which one of the input is, or isn't
+abbrev pub CountShape : Counts → Input → Bool → Type 0
+CountShape counts input inside =
+    (shape : ℕ) × (holds : Owner → Bool) × AreCounts counts holds × (holds (nth_shape input shape) ≡ inside)

@@ -1,9 +1,11 @@
 -- How far the edges of each shape reach, and which shapes have edges of which their boxes don't tell.
 use Rattle.std.specs.Prelude.{
   ◌≡◌,
+  ◌≢◌,
   ℕ,
   ◌+◌,
   ◌*◌,
+  ◌^◌,
   ◌<◌,
   ℤ,
   Bool,
@@ -12,12 +14,18 @@ use Rattle.std.specs.Prelude.{
   ◌&&◌,
   ◌||◌,
   if◌then◌else◌,
+  ⊤,
   List,
+  [],
+  ◌∷◌,
   None,
   Option,
   Some,
   length,
+  nat_lt,
   slice_get,
+  slice_index,
+  slice_index_or,
   Contains,
 }
 use Rattle.std.specs.List.Sorted.{IsStrictlyIncreasing}
@@ -31,6 +39,9 @@ use Rattle.snap_chains.specs.declared.owner.Owner.{Owner}
 use Rattle.snap_chains.specs.Rounded.{Owned, is_owner_listed}
 use Rattle.face_sweep.specs.declared.boxes.Boxes.{Boxes}
 use Rattle.face_sweep.specs.declared.reach.Reach.{Reach}
+use Rattle.face_sweep.specs.declared.turns.Turn.{Turn}
+use Rattle.face_sweep.specs.declared.turns.Turn.TheVariants.{Sought, Told, Traced}
+use Rattle.face_sweep.specs.Counts.{nth_shape}
 use Rattle.face_rows.specs.Lines.{edge_at, owners_at}
 
 abbrev pub box_list : Boxes → Input → List Rect
@@ -101,6 +112,47 @@ pub record AreTraced (r : Owned) (boxes : Boxes) (keys : List ℕ) : Type 0 wher
 abbrev pub keys_of : Reach → List ℕ
 keys_of reach = reach.traced.items
 
+-- ---- what is told of each edge
+-- a shape of the input is the only owner: it isn't traced, and its box tells this of the edge
+pub record IsToldAlone (owners : List Owner) (edge : Point × Point) (boxes : Boxes) (keys : List ℕ) (input : Input) (holds : Bool) : Type 0 where
+  pub shape : ℕ
+  pub small : shape < 2 ^ 32
+  pub alone : owners ≡ nth_shape input shape ∷ []
+  pub told : told_by (extent_of boxes (nth_shape input shape)) edge ≡ Some holds
+  pub untraced : (i : ℕ) → i < length keys → slice_index keys i ≢ key_of (nth_shape input shape)
+
+-- a shape of the input is the only owner, and its key has this index
+pub record IsTracedAlone (owners : List Owner) (keys : List ℕ) (input : Input) (index : ℕ) : Type 0 where
+  pub shape : ℕ
+  pub small : shape < 2 ^ 32
+  pub alone : owners ≡ nth_shape input shape ∷ []
+  pub inside : index < length keys
+  pub key : slice_index keys index ≡ key_of (nth_shape input shape)
+
+abbrev pub IsTurnOf : List Owner → Point × Point → Boxes → List ℕ → Turn → Type 0
+IsTurnOf owners edge boxes keys Sought = ⊤
+IsTurnOf owners edge boxes keys (Told input holds) = IsToldAlone owners edge boxes keys input holds
+IsTurnOf owners edge boxes keys (Traced input index) = IsTracedAlone owners keys input index
+
+-- what is told where the box of the only owner tells this
+abbrev pub turn_told : Input → Option Bool → Turn
+turn_told input None = Sought
+turn_told input (Some holds) = Told input holds
+
+-- what is told where the only owner has the list of this index
+abbrev pub traced_if : Bool → Input → ℕ → Turn
+traced_if true input index = Traced input index
+traced_if false input index = Sought
+
+abbrev pub turn_traced : Input → ℕ → Turn
+turn_traced input index = traced_if (nat_lt index 65536) input index
+
+-- one for each edge
+pub record AreTurns (r : Owned) (boxes : Boxes) (keys : List ℕ) (turns : List Turn) : Type 0 where
+  pub count : length turns ≡ length r.0
+  pub each : (n : ℕ) → n < length r.0 → IsTurnOf (owners_at r n) (edge_at r n) boxes keys (slice_index_or turns n Sought)
+
 pub record IsReach (r : Owned) (reach : Reach) : Type 0 where
   pub boxes : AreBoxes r reach.boxes
   pub traced : AreTraced r reach.boxes (keys_of reach)
+  pub turns : AreTurns r reach.boxes (keys_of reach) reach.turns.items

@@ -1,10 +1,10 @@
 //! How many shapes of each input hold.
-ghost use Rattle.std.specs.Prelude.{◌≡◌, ◌<◌, ◌≤◌, ◌+◌, ◌-◌, ◌^◌, Bool, Contains, IsTrue, List, true, false, if◌then◌else◌};
+ghost use Rattle.std.specs.Prelude.{◌≡◌, ℕ, ◌<◌, ◌≤◌, ◌+◌, ◌-◌, ◌^◌, Bool, Contains, IsTrue, List, true, false, if◌then◌else◌};
 ghost use Rattle.lay_point.specs.Parity.{xor};
 ghost use Rattle.snap_chains.specs.declared.owner.Owner.{Owner};
 ghost use Rattle.snap_chains.specs.Owners.{owner_eq};
 ghost use Rattle.face_rows.specs.Labels.{answer_on};
-ghost use Rattle.face_sweep.specs.Counts.{AreCounts, CountOwner};
+ghost use Rattle.face_sweep.specs.Counts.{AreCounts, CountOwner, CountShape, nth_shape};
 ghost use Rattle.face_rows.specs.Operations.{answer};
 
 use face_rows::Op;
@@ -34,7 +34,16 @@ impl Counts {
         ensures { (holds : Owner → Bool) → AreCounts self holds → holds owner ≡ inside
             → AreCounts result (λ o. xor (owner_eq owner o) (holds o)) }
     {
-        match owner.input {
+        self.turned_in(owner.input, inside)
+    }
+
+    /// Returns the counts where a shape of the input is turned in or out, which holds if it is inside.
+    pub fn turned_in(self, input: Input, inside: bool) -> Counts
+        requires { CountShape self input inside }
+        ensures { (shape : ℕ) (holds : Owner → Bool) → shape < 2 ^ 32 → AreCounts self holds → holds (nth_shape input shape) ≡ inside
+            → AreCounts result (λ o. xor (owner_eq (nth_shape input shape) o) (holds o)) }
+    {
+        match input {
             Input::First => Counts {
                 first: turned_count(self.first, inside),
                 second: self.second,

@@ -11,7 +11,7 @@ use std::alloc::{AllocError, Global};
 #[derive(Debug, Drop)]
 pub struct Known {
     /// Under which key the sides of an edge were put, if they were.
-    keys: Vec<usize>,
+    keys: Vec<u32>,
     kept: Slab<Kept>,
 }
 
@@ -33,7 +33,7 @@ impl Known {
         ensures none { IfOk result (λ known. (n : ℕ) → sides_at known n ≡ None) }
     {
         Ok(Known {
-            keys: vec![in alloc; 0; count]?,
+            keys: vec![in alloc; 0u32; count]?,
             kept: Slab::new(alloc),
         })
     }
@@ -44,7 +44,7 @@ impl Known {
         ensures variant { is_some result ≡ is_some (sides_at self.now number) }
     {
         let key = self.keys.get(number).copied()?;
-        let kept = self.kept.get(key)?;
+        let kept = self.kept.get(key as usize)?;
         if kept.number == number {
             Some(&kept.sides)
         } else {
@@ -56,13 +56,16 @@ impl Known {
     ///
     /// # Errors
     ///
-    /// `AllocError`, if an allocation fails.
+    /// `AllocError`, if an allocation fails, and where 2^32 sides are kept.
     pub fn put(&mut self, number: usize, sides: Sides) -> Result<(), AllocError>
         requires { number < known_count self.old }
         ensures { OnOk result (HasChangedAt self.old self.new number (Some sides)) }
     {
         let key = self.kept.insert(Kept { number, sides })?;
-        self.keys[number] = key;
+        if key > u32::MAX as usize {
+            return Err(AllocError);
+        }
+        self.keys[number] = key as u32;
         Ok(())
     }
 
@@ -72,7 +75,7 @@ impl Known {
     {
         if self.get(number).is_some() {
             let key = self.keys[number];
-            self.kept.try_remove(key);
+            self.kept.try_remove(key as usize);
         }
     }
 }

@@ -26,7 +26,9 @@
 //!   edges has a key alone.
 //! - [`Reach`] is the box round each shape's edges (`specs/Reaches.antt`). Of an edge on its border
 //!   the box tells at once whether the shape holds beside it: right of a left side and above a
-//!   bottom it does, right of a right side and above a top it doesn't.
+//!   bottom it does, right of a right side and above a top it doesn't. Most edges have one owner: what its box
+//!   tells of the edge, or which list has it, is found before the sweep (`turns.rt`), which then needn't look at
+//!   owners and boxes.
 //! - [`OwnRows`] has, for each shape with other edges than these, those of the row's edges that it owns
 //!   (`specs/OwnRows.antt`). A shape holds right of a point exactly if an odd number of its edges is right of
 //!   it, and one search in the shape's own list tells how many there are. An edge comes to the lists of its
@@ -44,7 +46,7 @@
 //! - `place.rt`, `search.rt`, `side.rt`: where a point is among the edges of the list.
 //! - `passing.rt`: how the list passes a point; `laws.rt`: why it is then that of the next.
 //! - `sides.rt`, `counts.rt`, `known.rt`: what holds beside an edge.
-//! - `reach.rt`, `boxes.rt`, `extent.rt`, `traced.rt`, `own_rows.rt`: whether one shape holds beside an edge.
+//! - `reach.rt`, `boxes.rt`, `extent.rt`, `traced.rt`, `turns.rt`, `own_rows.rt`: whether one shape holds beside an edge.
 #![tactic(auto)]
 
 mod boxes;
@@ -62,6 +64,7 @@ mod side;
 mod sides;
 mod stops;
 mod traced;
+mod turns;
 
 pub use known::Known;
 pub use laws::{nexts_tell, points_pass};

@@ -1,5 +1,5 @@
 //! The edges of single shapes in a row.
-ghost use Rattle.std.specs.Prelude.{◌≡◌, ◌<◌, ◌≤◌, ◌++◌, ◌∷◌, [], ℕ, All, Contains, IfOk, List, OnOk, length};
+ghost use Rattle.std.specs.Prelude.{◌≡◌, ◌<◌, ◌≤◌, ◌++◌, ◌∷◌, [], ℕ, All, Contains, IfOk, List, OnOk, length, slice_index};
 ghost use Rattle.std.specs.List.Sorted.{IsStrictlyIncreasing};
 ghost use Rattle.snap_chains.specs.declared.owner.Owner.{Owner};
 ghost use Rattle.snap_chains.specs.Rounded.{Owned};
@@ -12,13 +12,16 @@ ghost use Rattle.face_sweep.specs.OwnRows.{
   HasTakenEdge,
   IsCutBy,
   is_odd,
+  list_at,
+  lists_of,
 };
-ghost use Rattle.face_sweep.specs.Reaches.{key_of, keys_of};
+ghost use Rattle.face_sweep.specs.Reaches.{IsReach, key_of, keys_of};
 
 use crate::place::is_left_at;
 use crate::reach::Reach;
 use crate::search::partition_from;
 use crate::traced::index_of;
+use crate::turns::Turn;
 use lay_point::Point;
 use snap_chains::{CleanEdges, Owner};
 use std::alloc::{AllocError, Global};
@@ -63,6 +66,17 @@ impl OwnRows {
             → own owner ≡ right ++ left → IsCutBy edges.now point right left → result ≡ is_odd (length right) }
     {
         let index = index_of(reach.traced.as_slice(), owner).unwrap();
+        self.holds_in(edges, index, point)
+    }
+
+    /// Returns whether an odd number of the edges in the list of this index isn't left of the point. If there is no
+    /// point, all of them count.
+    pub(crate) fn holds_in(&self, edges: &CleanEdges, index: usize, point: Option<Point>) -> bool
+        requires index { index < length (lists_of self.now) }
+        requires given { All (λ n. n < length edges.now.0) (list_at self.now index) }
+        ensures { (right left : List ℕ) → list_at self.now index ≡ right ++ left → IsCutBy edges.now point right left
+            → result ≡ is_odd (length right) }
+    {
         is_odd(place_in(edges, self.lists[index].as_slice(), point))
     }
 
@@ -77,6 +91,30 @@ impl OwnRows {
     ///
     /// Of each owner a search among its edges.
     pub fn put(
+        &mut self,
+        edges: &CleanEdges,
+        reach: &Reach,
+        number: usize,
+        point: Option<Point>,
+    ) -> Result<(), AllocError>
+        requires given { number < length edges.now.0 }
+        requires reach { IsReach edges.now reach.now }
+        requires room { HaveLists edges.now (keys_of reach.now) self.old }
+        ensures room { OnOk result (HaveLists edges.now (keys_of reach.now) self.new) }
+        ensures put { OnOk result (HasPutEdge edges.now (keys_of reach.now) point number self.old self.new) }
+    {
+        match reach.turns[number] {
+            Turn::Told { .. } => Ok(()),
+            Turn::Traced { index, .. } => {
+                self.put_at(edges, reach, index as usize, number, point)?;
+                Ok(())
+            }
+            Turn::Sought => self.put_each(edges, reach, number, point),
+        }
+    }
+
+    /// Puts the edge of this number into the lists of its owners.
+    fn put_each(
         &mut self,
         edges: &CleanEdges,
         reach: &Reach,
@@ -111,8 +149,29 @@ impl OwnRows {
         ensures put { OnOk result (HasInserted edges.now (keys_of reach.now) owner point number self.old self.new) }
     {
         if let Some(index) = index_of(reach.traced.as_slice(), owner) {
-            put_number(edges, &mut self.lists[index], number, point)?;
+            self.put_at(edges, reach, index, number, point)?;
         }
+        Ok(())
+    }
+
+    /// Puts the number into the list of this index.
+    fn put_at(
+        &mut self,
+        edges: &CleanEdges,
+        _reach: &Reach,
+        index: usize,
+        number: usize,
+        point: Option<Point>,
+    ) -> Result<(), AllocError>
+        requires given { number < length edges.now.0 }
+        requires rising { IsStrictlyIncreasing (keys_of _reach.now) }
+        requires index { index < length (keys_of _reach.now) }
+        requires room { HaveLists edges.now (keys_of _reach.now) self.old }
+        ensures room { OnOk result (HaveLists edges.now (keys_of _reach.now) self.new) }
+        ensures put { OnOk result ((o : Owner) → slice_index (keys_of _reach.now) index ≡ key_of o
+            → HasInserted edges.now (keys_of _reach.now) o point number self.old self.new) }
+    {
+        put_number(edges, &mut self.lists[index], number, point)?;
         Ok(())
     }
 
@@ -123,6 +182,21 @@ impl OwnRows {
     ///
     /// Of each owner a search among its edges.
     pub fn take_out(&mut self, edges: &CleanEdges, reach: &Reach, number: usize, point: Point)
+        requires given { number < length edges.now.0 }
+        requires reach { IsReach edges.now reach.now }
+        requires room { HaveLists edges.now (keys_of reach.now) self.old }
+        ensures room { HaveLists edges.now (keys_of reach.now) self.new }
+        ensures taken { HasTakenEdge edges.now (keys_of reach.now) point number self.old self.new }
+    {
+        match reach.turns[number] {
+            Turn::Told { .. } => {}
+            Turn::Traced { index, .. } => self.take_at(edges, reach, index as usize, point),
+            Turn::Sought => self.take_each(edges, reach, number, point),
+        }
+    }
+
+    /// Takes the edge of this number out of the lists of its owners.
+    fn take_each(&mut self, edges: &CleanEdges, reach: &Reach, number: usize, point: Point)
         requires given { number < length edges.now.0 }
         requires rising { IsStrictlyIncreasing (keys_of reach.now) }
         requires room { HaveLists edges.now (keys_of reach.now) self.old }
@@ -142,8 +216,20 @@ impl OwnRows {
         ensures taken { HasTaken edges.now (keys_of reach.now) owner point self.old self.new }
     {
         if let Some(index) = index_of(reach.traced.as_slice(), owner) {
-            take_number(edges, &mut self.lists[index], point);
+            self.take_at(edges, reach, index, point);
         }
+    }
+
+    /// Takes the leftmost edge that isn't left of the point out of the list of this index.
+    fn take_at(&mut self, edges: &CleanEdges, _reach: &Reach, index: usize, point: Point)
+        requires rising { IsStrictlyIncreasing (keys_of _reach.now) }
+        requires index { index < length (keys_of _reach.now) }
+        requires room { HaveLists edges.now (keys_of _reach.now) self.old }
+        ensures room { HaveLists edges.now (keys_of _reach.now) self.new }
+        ensures taken { (o : Owner) → slice_index (keys_of _reach.now) index ≡ key_of o
+            → HasTaken edges.now (keys_of _reach.now) o point self.old self.new }
+    {
+        take_number(edges, &mut self.lists[index], point);
     }
 }
 

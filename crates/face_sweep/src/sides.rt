@@ -1,5 +1,6 @@
 //! The shapes that hold on the two sides of an edge.
 ghost use Rattle.std.specs.Prelude.{◌≡◌, ◌<◌, All, true, length};
+ghost use Rattle.lay_point.specs.Parity.{xor};
 ghost use Rattle.snap_chains.specs.declared.owner.Owner.{Owner};
 ghost use Rattle.snap_chains.specs.Rounded.{is_owner_listed};
 ghost use Rattle.face_rows.specs.Lines.{owners_at};
@@ -22,6 +23,7 @@ use crate::extent::told_by;
 use crate::known::Known;
 use crate::own_rows::OwnRows;
 use crate::reach::Reach;
+use crate::turns::Turn;
 use face_rows::Op;
 use lay_point::Point;
 use snap_chains::{CleanEdges, Owner};
@@ -66,11 +68,7 @@ impl Sides {
         ensures { AreSidesOf (owners_at edges.now number) (is_odd_in edges.now behind.now) result }
     {
         let right = right_counts(edges, behind, known);
-        let mut left = right;
-        for owner in edges.owners(number) {
-            let holds = holds_beside(edges, reach, own, point, number, *owner);
-            left = left.turned(*owner, holds);
-        }
+        let left = left_counts(edges, behind, reach, own, point, number, right);
         Sides { right, left }
     }
 
@@ -95,6 +93,62 @@ fn right_counts(edges: &CleanEdges, behind: &[usize], known: &Known) -> Counts
     }
     let next = behind[0];
     known.get(next).unwrap().left
+}
+
+/// Returns how many shapes hold left of the edge of this number, right of which these do.
+fn left_counts(
+    edges: &CleanEdges,
+    _behind: &[usize],
+    reach: &Reach,
+    own: &OwnRows,
+    point: Option<Point>,
+    number: usize,
+    right: Counts,
+) -> Counts
+    requires sound { AreSound edges.now }
+    requires number { number < length edges.now.0 }
+    requires reach { IsReach edges.now reach.now }
+    requires room { HaveLists edges.now (keys_of reach.now) own.now }
+    requires own { AreRight edges.now (keys_of reach.now) point _behind.now own.now }
+    requires beside { (o : Owner) → is_odd_in edges.now _behind.now o ≡ holds_beside edges.now number o }
+    requires right { AreCounts right (is_odd_in edges.now _behind.now) }
+    ensures { AreCounts result (λ o. xor (is_owner_listed o (owners_at edges.now number)) (is_odd_in edges.now _behind.now o)) }
+{
+    match reach.turns[number] {
+        Turn::Told { input, holds } => right.turned_in(input, holds),
+        Turn::Traced { input, index } => {
+            let holds = own.holds_in(edges, index as usize, point);
+            right.turned_in(input, holds)
+        }
+        Turn::Sought => turned_by_owners(edges, _behind, reach, own, point, number, right),
+    }
+}
+
+/// Returns the counts once each owner of the edge of this number is turned.
+fn turned_by_owners(
+    edges: &CleanEdges,
+    _behind: &[usize],
+    reach: &Reach,
+    own: &OwnRows,
+    point: Option<Point>,
+    number: usize,
+    right: Counts,
+) -> Counts
+    requires sound { AreSound edges.now }
+    requires number { number < length edges.now.0 }
+    requires reach { IsReach edges.now reach.now }
+    requires room { HaveLists edges.now (keys_of reach.now) own.now }
+    requires own { AreRight edges.now (keys_of reach.now) point _behind.now own.now }
+    requires beside { (o : Owner) → is_odd_in edges.now _behind.now o ≡ holds_beside edges.now number o }
+    requires right { AreCounts right (is_odd_in edges.now _behind.now) }
+    ensures { AreCounts result (λ o. xor (is_owner_listed o (owners_at edges.now number)) (is_odd_in edges.now _behind.now o)) }
+{
+    let mut left = right;
+    for owner in edges.owners(number) {
+        let holds = holds_beside(edges, reach, own, point, number, *owner);
+        left = left.turned(*owner, holds);
+    }
+    left
 }
 
 /// Returns whether the shape holds right of the edge of this number, which it owns: as its box tells, or else

@@ -1,45 +1,8 @@
-use Rattle.std.proofs.Common.{◌≡◌, ◌<◌, ℕ, get_or, length, sym, subst, ◌∙◌, arith}
-use Rattle.std.specs.Global.{Vec}
-use Rattle.std.specs.Prelude.{All}
-use Rattle.std.specs.Vec.{with_item}
-use Rattle.std.proofs.lemmas.List.{map-set}
-use Rattle.face_sweep.specs.declared.own_rows.OwnRows.{OwnRows}
-use Rattle.face_sweep.specs.OwnRows.{lists_of}
+use Rattle.std.proofs.Common.{◌≡◌, get_or, subst}
 use Rattle.face_sweep.specs.Reaches.{key_of}
-use Rattle.face_sweep.proofs.OwnLemmas.{list_read, own_changed, room_changed}
 use Rattle.face_sweep.proofs.own_rows.OwnRows.put_one.Goals as goal
 
-pub put_number-requires-clause-given : goal.put_number-requires-clause-given
-put_number-requires-clause-given c =
-    let i = c.in-Some.index in
-    let inside : i < length (lists_of c.args.self.now) = omega (arith, c.requires.room.count, c.in-Some.ensures.0) in
-    subst (All (λ n. n < length c.args.edges.now.0))
-    (sym (list_read c.args.self.now i c.index_mut.result.now inside c.index_mut.ensures.value)) (c.requires.room.given i)
-
-pub returns-in_ok-put_number-clause-room : goal.returns-in_ok-put_number-clause-room
-returns-in_ok-put_number-clause-room c =
-    let old = c.args.self.now in
-    let i = c.in-Some.index in
-    let v = c.put_number.new.list in
-    let new : OwnRows = record { lists = with_item old.lists i v } in
-    let within : i < length c.args.reach.now.traced.items =
-    subst (λ l. i < length l) c.as_slice.ensures.value c.in-Some.ensures.0 in
-    room_changed c.args.reach.now.traced.items old new i v.items c.requires.room.count within
-    (map-set (λ (u : Vec ℕ). u.items) old.lists.items i v) c.args.edges.now c.requires.room c.in_ok-put_number.ensures.given
-
-pub returns-in_ok-put_number-clause-put : goal.returns-in_ok-put_number-clause-put
-returns-in_ok-put_number-clause-put c = λ own after right left is cut is_after others h.
-    let old = c.args.self.now in
-    let i = c.in-Some.index in
-    let v = c.put_number.new.list in
-    let new : OwnRows = record { lists = with_item old.lists i v } in
-    let within : i < length c.args.reach.now.traced.items =
-    subst (λ l. i < length l) c.as_slice.ensures.value c.in-Some.ensures.0 in
-    let at : get_or c.args.reach.now.traced.items i 0 ≡ key_of c.args.owner =
-    subst (λ l. get_or l i 0 ≡ key_of c.args.owner) c.as_slice.ensures.value c.in-Some.ensures.1 in
-    let inside : i < length (lists_of old) = omega (arith, c.requires.room.count, within) in
-    let was : c.index_mut.result.now.items ≡ own c.args.owner =
-    list_read old i c.index_mut.result.now inside c.index_mut.ensures.value ∙ h i c.args.owner within at in
-    own_changed c.args.reach.now.traced.items old new i v.items c.requires.room.count within
-    (map-set (λ (u : Vec ℕ). u.items) old.lists.items i v) c.args.owner own after c.requires.rising at
-    (c.in_ok-put_number.ensures.put right left (was ∙ is) cut ∙ sym is_after) others h
+pub returns-in_ok-put_at-clause-put : goal.returns-in_ok-put_at-clause-put
+returns-in_ok-put_at-clause-put c =
+    c.in_ok-put_at.ensures.put c.args.owner
+    (subst (λ l. get_or l c.in-Some.index 0 ≡ key_of c.args.owner) c.as_slice.ensures.value c.in-Some.ensures.1)

@@ -1,47 +1,8 @@
-use Rattle.std.proofs.Common.{◌≡◌, ◌<◌, ℕ, get_or, length, sym, subst, ◌∙◌, arith}
-use Rattle.std.specs.Global.{Vec}
-use Rattle.std.specs.Prelude.{All}
-use Rattle.std.specs.Vec.{with_item}
-use Rattle.std.proofs.lemmas.List.{map-set}
-use Rattle.face_sweep.specs.declared.own_rows.OwnRows.{OwnRows}
-use Rattle.face_sweep.specs.OwnRows.{lists_of}
+use Rattle.std.proofs.Common.{◌≡◌, get_or, subst}
 use Rattle.face_sweep.specs.Reaches.{key_of}
-use Rattle.face_sweep.proofs.OwnLemmas.{list_read, own_changed, room_changed}
 use Rattle.face_sweep.proofs.own_rows.OwnRows.take_one.Goals as goal
 
-pub take_number-requires : goal.take_number-requires
-take_number-requires c =
-    let i = c.in-Some.index in
-    let inside : i < length (lists_of c.args.self.now) = omega (arith, c.requires.room.count, c.in-Some.ensures.0) in
-    record {
-      given = subst (All (λ n. n < length c.args.edges.now.0))
-          (sym (list_read c.args.self.now i c.index_mut.result.now inside c.index_mut.ensures.value)) (c.requires.room.given i);
-    }
-
-pub returns-in-Some-clause-room : goal.returns-in-Some-clause-room
-returns-in-Some-clause-room c =
-    let old = c.args.self.now in
-    let i = c.in-Some.index in
-    let v = c.take_number.new.list in
-    let new : OwnRows = record { lists = with_item old.lists i v } in
-    let within : i < length c.args.reach.now.traced.items =
-    subst (λ l. i < length l) c.as_slice.ensures.value c.in-Some.ensures.0 in
-    room_changed c.args.reach.now.traced.items old new i v.items c.requires.room.count within
-    (map-set (λ (u : Vec ℕ). u.items) old.lists.items i v) c.args.edges.now c.requires.room c.take_number.ensures.given
-
 pub returns-in-Some-clause-taken : goal.returns-in-Some-clause-taken
-returns-in-Some-clause-taken c = λ own after right left n is cut is_after others h.
-    let old = c.args.self.now in
-    let i = c.in-Some.index in
-    let v = c.take_number.new.list in
-    let new : OwnRows = record { lists = with_item old.lists i v } in
-    let within : i < length c.args.reach.now.traced.items =
-    subst (λ l. i < length l) c.as_slice.ensures.value c.in-Some.ensures.0 in
-    let at : get_or c.args.reach.now.traced.items i 0 ≡ key_of c.args.owner =
-    subst (λ l. get_or l i 0 ≡ key_of c.args.owner) c.as_slice.ensures.value c.in-Some.ensures.1 in
-    let inside : i < length (lists_of old) = omega (arith, c.requires.room.count, within) in
-    let was : c.index_mut.result.now.items ≡ own c.args.owner =
-    list_read old i c.index_mut.result.now inside c.index_mut.ensures.value ∙ h i c.args.owner within at in
-    own_changed c.args.reach.now.traced.items old new i v.items c.requires.room.count within
-    (map-set (λ (u : Vec ℕ). u.items) old.lists.items i v) c.args.owner own after c.requires.rising at
-    (c.take_number.ensures.taken right left n (was ∙ is) cut ∙ sym is_after) others h
+returns-in-Some-clause-taken c =
+    c.take_at.ensures.taken c.args.owner
+    (subst (λ l. get_or l c.in-Some.index 0 ≡ key_of c.args.owner) c.as_slice.ensures.value c.in-Some.ensures.1)

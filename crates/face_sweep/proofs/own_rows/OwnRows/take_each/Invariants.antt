@@ -5,7 +5,7 @@ use Rattle.snap_chains.specs.Owners.{owner_eq}
 use Rattle.snap_chains.specs.Rounded.{is_owner_listed}
 use Rattle.face_sweep.specs.OwnRows.{AreOwn, HaveLists, IsCutBy, listed_if, own_edge}
 use Rattle.face_sweep.specs.Reaches.{keys_of}
-use Rattle.face_sweep.proofs.own_rows.OwnRows.take_out.Given as goal
+use Rattle.face_sweep.proofs.own_rows.OwnRows.take_each.Given as goal
 
 -- the edge is out of the lists of the owners so far
 abbrev pub invariant-loop-owner : goal.invariant-loop-owner

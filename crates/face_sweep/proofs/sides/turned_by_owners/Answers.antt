@@ -11,7 +11,7 @@ use Rattle.face_rows.specs.Lines.{owners_at}
 use Rattle.face_sweep.specs.Sides.{is_odd_in}
 use Rattle.face_rows.proofs.OwnerLemmas.{listed_at, listed_of, none_before, turn_more}
 use Rattle.face_sweep.proofs.StateLemmas.{counts_agree}
-use Rattle.face_sweep.proofs.sides.Sides.of.Goals as goal
+use Rattle.face_sweep.proofs.sides.turned_by_owners.Goals as goal
 
 first : Owner
 first = record { input = First; shape = 0 }
@@ -29,13 +29,13 @@ holds_beside-holds-requires-clause-listed c =
 
 pub holds_beside-holds-requires-clause-own : goal.holds_beside-holds-requires-clause-own
 holds_beside-holds-requires-clause-own c =
-    record { behind = c.args.behind.now; right = c.requires.own; tell = c.requires.beside }
+    record { behind = c.args._behind.now; right = c.requires.own; tell = c.requires.beside }
 
 pub turned-left-requires : goal.turned-left-requires
 unfolding first
 turned-left-requires c =
     let r = c.args.edges.now in
-    let behind = c.args.behind.now in
+    let behind = c.args._behind.now in
     let owners = c.owners-owner-items.result.now in
     let i = c.loop-owner.owner-index in
     let o = get_or owners i first in (
@@ -49,7 +49,7 @@ pub loop-owner-preserved : goal.loop-owner-preserved
 unfolding first
 loop-owner-preserved c =
     let r = c.args.edges.now in
-    let behind = c.args.behind.now in
+    let behind = c.args._behind.now in
     let owners = c.owners-owner-items.result.now in
     let i = c.loop-owner.owner-index in
     let o = get_or owners i first in
@@ -65,15 +65,12 @@ loop-owner-preserved c =
 pub returns : goal.returns
 returns c =
     let r = c.args.edges.now in
-    let behind = c.args.behind.now in
+    let behind = c.args._behind.now in
     let owners = c.owners-owner-items.result.now in
     let all = take_all c.loop-owner.owner-index owners c.loop-owner-test.false in
     let own : owners_at r c.args.number ≡ owners =
     get_or_from_slice_get r.1 c.args.number owners [] c.owners-owner-items.ensures.value in
-    record {
-      right = c.right_counts-right.ensures;
-      left = counts_agree c.loop-owner.left _ (λ o. xor (is_owner_listed o (owners_at r c.args.number)) (is_odd_in r behind o))
-          (λ o. ap (λ b. xor b (is_odd_in r behind o)) (ap (parity (λ q. owner_eq q o)) all
-          ∙ listed_of owners o c.owners-owner-items.ensures.rising ∙ sym (ap (is_owner_listed o) own)))
-          c.loop-owner.invariant;
-    }
+    counts_agree c.loop-owner.left _ (λ o. xor (is_owner_listed o (owners_at r c.args.number)) (is_odd_in r behind o))
+    (λ o. ap (λ b. xor b (is_odd_in r behind o)) (ap (parity (λ q. owner_eq q o)) all
+    ∙ listed_of owners o c.owners-owner-items.ensures.rising ∙ sym (ap (is_owner_listed o) own)))
+    c.loop-owner.invariant

@@ -4,7 +4,7 @@ use Rattle.snap_chains.specs.declared.owner.Owner.{Owner}
 use Rattle.snap_chains.specs.Owners.{owner_eq}
 use Rattle.face_sweep.specs.OwnRows.{AreOwn, HaveLists, IsCutBy, listed_if}
 use Rattle.face_sweep.specs.Reaches.{keys_of}
-use Rattle.face_sweep.proofs.own_rows.OwnRows.put.Given as goal
+use Rattle.face_sweep.proofs.own_rows.OwnRows.put_each.Given as goal
 
 -- the edge is in the lists of the owners so far
 abbrev pub invariant-loop-owner : goal.invariant-loop-owner

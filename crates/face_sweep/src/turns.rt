@@ -1,0 +1,88 @@
+//! What the sweep is told of each edge before it begins.
+ghost use Rattle.std.specs.Prelude.{◌≡◌, ◌∷◌, [], IfOk};
+ghost use Rattle.std.specs.List.Sorted.{IsStrictlyIncreasing};
+ghost use Rattle.face_sweep.specs.Reaches.{AreTurns, IsTurnOf, turn_told, turn_traced};
+
+use crate::boxes::Boxes;
+use crate::extent::told_by;
+use crate::traced::index_of;
+use lay_point::Edge;
+use snap_chains::{CleanEdges, Input, Owner};
+use std::alloc::{AllocError, Global};
+
+/// Indexes below this have room in a turn.
+const MANY: usize = 65_536;
+
+/// Which shape an edge turns, if it has one owner alone, and where to look whether that holds right of it.
+#[derive(Clone, Copy, Debug)]
+pub(crate) enum Turn {
+    /// Its owners have to be looked at.
+    Sought,
+    /// A shape of the input, which isn't traced; its box tells whether it holds right of the edge.
+    Told { input: Input, holds: bool },
+    /// A shape of the input, which is traced: the list of this index has its edges.
+    Traced { input: Input, index: u16 },
+}
+
+/// Returns what is told of each edge, in order. The keys are those of the shapes that are traced.
+pub(crate) fn turns_of(
+    alloc: Global,
+    edges: &CleanEdges,
+    boxes: &Boxes,
+    keys: &[u64],
+) -> Result<Vec<Turn>, AllocError>
+    requires { IsStrictlyIncreasing keys.now }
+    ensures { IfOk result (λ turns. AreTurns edges.now boxes.now keys.now turns.items) }
+{
+    let mut turns = Vec::with_capacity(alloc, edges.edges().len())?;
+    for number in 0..edges.edges().len() {
+        let edge = edges.edges()[number];
+        turns.push(turn_of(edges.owners(number), edge, boxes, keys))?;
+    }
+    Ok(turns)
+}
+
+/// Returns what is told of an edge that has these owners.
+fn turn_of(owners: &[Owner], edge: Edge, boxes: &Boxes, keys: &[u64]) -> Turn
+    requires { IsStrictlyIncreasing keys.now }
+    ensures { IsTurnOf owners.now edge boxes.now keys.now result }
+{
+    if owners.len() != 1 {
+        return Turn::Sought;
+    }
+    turn_by(owners[0], edge, boxes, keys)
+}
+
+/// Returns what is told of an edge that has this owner alone.
+fn turn_by(owner: Owner, edge: Edge, boxes: &Boxes, keys: &[u64]) -> Turn
+    requires { IsStrictlyIncreasing keys.now }
+    ensures { IsTurnOf (owner ∷ []) edge boxes.now keys.now result }
+{
+    match index_of(keys, owner) {
+        None => told(owner.input, told_by(boxes.extent(owner), edge)),
+        Some(index) => traced(owner.input, index),
+    }
+}
+
+/// Returns that the only owner is a shape of the input whose box tells so, if it tells.
+fn told(input: Input, holds: Option<bool>) -> Turn
+    ensures { result ≡ turn_told input holds }
+{
+    match holds {
+        Some(holds) => Turn::Told { input, holds },
+        None => Turn::Sought,
+    }
+}
+
+/// Returns that the only owner is a shape of the input whose list has this index, if a number of 16 bits can say it.
+fn traced(input: Input, index: usize) -> Turn
+    ensures { result ≡ turn_traced input index }
+{
+    if index < MANY {
+        return Turn::Traced {
+            input,
+            index: index as u16,
+        };
+    }
+    Turn::Sought
+}
