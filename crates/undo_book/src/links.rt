@@ -88,7 +88,7 @@ pub(crate) fn is_written_from(
 ///
 /// As many steps as there are elements, each by the logarithm of all that is listed, of the number of transactions and
 /// of the records of a maker, and as that of bringing the places in order that are found under each of the elements:
-/// one step for each where one element alone has any, else by the logarithm of their number.
+/// one step for each where few elements have any, else by the logarithm of their number.
 fn writers_among(
     alloc: Global,
     index: &Index,
@@ -182,7 +182,7 @@ impl Book {
     /// # Cost
     ///
     /// That of `writers_among`: a step for each live transaction that wrote one of the elements, or its logarithm
-    /// where several elements have writers. So where many transactions each read what all of them wrote, their links take as much time and
+    /// where many elements have writers. So where many transactions each read what all of them wrote, their links take as much time and
     /// memory as they are long.
     pub(crate) fn links_to(
         &self,

@@ -1,6 +1,6 @@
 //! Places in order.
 ghost use Rattle.std.specs.Prelude.{◌≡◌, ℕ};
-ghost use Rattle.std.specs.List.Sorted.{IsStrictlySortedBy};
+ghost use Rattle.std.specs.List.Sorted.{IsPermutation, IsSorted, IsStrictlySortedBy};
 ghost use Rattle.std.specs.Ordering.{nat_cmp};
 ghost use Rattle.undo_index.specs.First.{has_place};
 
@@ -29,13 +29,14 @@ impl Places {
     ///
     /// # Cost
     ///
-    /// One step for each where they are in order, else by the logarithm of their number.
-    pub fn of(mut places: Vec<usize>) -> Places
+    /// One step for each where they are a few rising lists one after the other, which are merged; else by the logarithm
+    /// of their number.
+    pub fn of(places: Vec<usize>) -> Places
         ensures { (p : ℕ) → has_place result p ≡ has_place places.items p }
     {
-        places.sort_unstable();
-        places.dedup();
-        Places { kept: places }
+        let mut kept = in_order(places);
+        kept.dedup();
+        Places { kept }
     }
 
     /// Lends the places, in order.
@@ -45,4 +46,15 @@ impl Places {
     {
         self.kept.as_slice()
     }
+}
+
+/// Returns these places in order. Merging takes memory: where there is none, they are sorted in place.
+fn in_order(mut places: Vec<usize>) -> Vec<usize>
+    ensures permutation { IsPermutation places.items result.items }
+    ensures sorted { IsSorted nat_cmp result.items }
+{
+    if places.sort().is_err() {
+        places.sort_unstable();
+    }
+    places
 }
