@@ -37,27 +37,27 @@ pub behind_live : (line : List ℕ) (more : List (List ℕ)) → is_live line �
 behind_live line more is = ap (λ (t : Bool). cond t (Some more) (behind more)) is
 
 abbrev Goes : List (List ℕ) → List (List ℕ) → List (List ℕ) → Type 0
-Goes seen heard more = (before (seen ++ more) ≡ before seen) × (behind (seen ++ more) ≡ Some (heard ++ more))
+Goes seen fed more = (before (seen ++ more) ≡ before seen) × (behind (seen ++ more) ≡ Some (fed ++ more))
 
-goes_by : (t : Bool) (line : List ℕ) (seen heard more : List (List ℕ)) → (behind seen ≡ Some heard → Goes seen heard more)
-    → cond t (Some seen) (behind seen) ≡ Some heard
+goes_by : (t : Bool) (line : List ℕ) (seen fed more : List (List ℕ)) → (behind seen ≡ Some fed → Goes seen fed more)
+    → cond t (Some seen) (behind seen) ≡ Some fed
     → (cond t [] (line ∷ before (seen ++ more)) ≡ cond t [] (line ∷ before seen))
-    × (cond t (Some (seen ++ more)) (behind (seen ++ more)) ≡ Some (heard ++ more))
-goes_by true line seen heard more on h = (refl, let e : seen ≡ heard = cc in ap (λ (ls : List (List ℕ)). Some (ls ++ more)) e)
-goes_by false line seen heard more on h = let (front, back) = on h in (ap (λ (ls : List (List ℕ)). line ∷ ls) front, back)
+    × (cond t (Some (seen ++ more)) (behind (seen ++ more)) ≡ Some (fed ++ more))
+goes_by true line seen fed more on h = (refl, let e : seen ≡ fed = cc in ap (λ (ls : List (List ℕ)). Some (ls ++ more)) e)
+goes_by false line seen fed more on h = let (front, back) = on h in (ap (λ (ls : List (List ℕ)). line ∷ ls) front, back)
 
-pub goes_on : (seen heard more : List (List ℕ)) → behind seen ≡ Some heard → Goes seen heard more
-goes_on [] heard more h = absurd (let e = h in cc)
-goes_on (line ∷ seen) heard more h = goes_by (is_live line) line seen heard more (goes_on seen heard more) h
+pub goes_on : (seen fed more : List (List ℕ)) → behind seen ≡ Some fed → Goes seen fed more
+goes_on [] fed more h = absurd (let e = h in cc)
+goes_on (line ∷ seen) fed more h = goes_by (is_live line) line seen fed more (goes_on seen fed more) h
 
 -- ---- the CIF text
 
 abbrev cif_by : List (List ℕ) → Option (List (List ℕ)) → Result (List ℕ) JobFault
 cif_by front rest = cif_from (length front + 1) (is_some rest) (job_of (concat front))
 
-pub cif_more : (seen heard more : List (List ℕ)) → behind seen ≡ Some heard → cif_of (seen ++ more) ≡ cif_of seen
-cif_more seen heard more h =
-    let (front, back) = goes_on seen heard more h in
+pub cif_more : (seen fed more : List (List ℕ)) → behind seen ≡ Some fed → cif_of (seen ++ more) ≡ cif_of seen
+cif_more seen fed more h =
+    let (front, back) = goes_on seen fed more h in
     ap (λ (ls : List (List ℕ)). cif_by ls (behind (seen ++ more))) front ∙ ap (cif_by (before seen)) back
     ∙ sym (ap (cif_by (before seen)) h)
 
@@ -84,19 +84,19 @@ cif_none seen h = ap (λ (ls : List (List ℕ)). cif_by ls (behind seen)) (befor
 
 -- ---- what is said
 
-pub after_more : (run : LiveRun) (heard : List (List ℕ)) (line : List ℕ)
-    → after_lines run (heard ++ line ∷ []) ≡ (after_line (after_lines run heard) line).0
+pub after_more : (run : LiveRun) (fed : List (List ℕ)) (line : List ℕ)
+    → after_lines run (fed ++ line ∷ []) ≡ (after_line (after_lines run fed) line).0
 after_more run [] line = refl
-after_more run (first ∷ heard) line = after_more (after_line run first).0 heard line
+after_more run (first ∷ fed) line = after_more (after_line run first).0 fed line
 
-pub answers_more : (run : LiveRun) (heard : List (List ℕ)) (line said more : List ℕ) → AreAnswered run heard said
-    → IsSaidText (after_line (after_lines run heard) line) more → AreAnswered run (heard ++ line ∷ []) (said ++ more)
+pub answers_more : (run : LiveRun) (fed : List (List ℕ)) (line said more : List ℕ) → AreAnswered run fed said
+    → IsSaidText (after_line (after_lines run fed) line) more → AreAnswered run (fed ++ line ∷ []) (said ++ more)
 answers_more run [] line said more none is = (more, [], is, refl, ap (λ (l : List ℕ). l ++ more) none ∙ sym (append-nil more))
-answers_more run (first ∷ heard) line said more (one, rest, so, are, joined) is = (
+answers_more run (first ∷ fed) line said more (one, rest, so, are, joined) is = (
   one,
   rest ++ more,
   so,
-  answers_more (after_line run first).0 heard line rest more are is,
+  answers_more (after_line run first).0 fed line rest more are is,
   ap (λ (l : List ℕ). l ++ more) joined ∙ append_assoc one rest more,
 )
 
@@ -110,5 +110,5 @@ length_more seen line = length-append seen (line ∷ [])
 pub behind_other : (line : List ℕ) → is_live line ≡ false → behind (line ∷ []) ≡ None
 behind_other line is = ap (λ (t : Bool). cond {A = Option (List (List ℕ))} t (Some []) None) is
 
-pub behind_more : (seen heard more : List (List ℕ)) → behind seen ≡ Some heard → behind (seen ++ more) ≡ Some (heard ++ more)
-behind_more seen heard more h = (goes_on seen heard more h).1
+pub behind_more : (seen fed more : List (List ℕ)) → behind seen ≡ Some fed → behind (seen ++ more) ≡ Some (fed ++ more)
+behind_more seen fed more h = (goes_on seen fed more h).1

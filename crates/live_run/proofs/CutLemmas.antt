@@ -9,7 +9,7 @@ use Rattle.std.proofs.lemmas.List.Elements.{filter-append}
 use Rattle.std.proofs.lemmas.Bool.{and_parts, not-true, not_from_false}
 use Rattle.byte_io.specs.Lines.{in_front, lines}
 use Rattle.live_run.specs.Cif.{is_ended, whole}
-use Rattle.live_run.specs.Ear.{IsCut, is_not_newline}
+use Rattle.live_run.specs.Feed.{IsCut, is_not_newline}
 
 all_more : (line : List ℕ) (b : ℕ) → list_all is_not_newline line ≡ true → is_not_newline b ≡ true
     → list_all is_not_newline (line ++ b ∷ []) ≡ true

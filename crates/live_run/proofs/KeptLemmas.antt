@@ -79,15 +79,15 @@ module _ {J : Type 0} (kept : J → Option (List KeptText)) (losses : J → ℕ)
 
 -- ---- lines
 
-live_by : (t : Bool) (line : List ℕ) (seen : List (List ℕ)) (more : List (List ℕ)) (heard : List (List ℕ))
-    → (behind seen ≡ Some heard → first_live (seen ++ more) ≡ first_live seen) → cond t (Some seen) (behind seen) ≡ Some heard
+live_by : (t : Bool) (line : List ℕ) (seen : List (List ℕ)) (more : List (List ℕ)) (fed : List (List ℕ))
+    → (behind seen ≡ Some fed → first_live (seen ++ more) ≡ first_live seen) → cond t (Some seen) (behind seen) ≡ Some fed
     → cond t line (first_live (seen ++ more)) ≡ cond t line (first_live seen)
-live_by true line seen more heard on h = refl
-live_by false line seen more heard on h = on h
+live_by true line seen more fed on h = refl
+live_by false line seen more fed on h = on h
 
-live_more : (seen heard more : List (List ℕ)) → behind seen ≡ Some heard → first_live (seen ++ more) ≡ first_live seen
-live_more [] heard more h = absurd (let e = h in cc)
-live_more (line ∷ seen) heard more h = live_by (is_live line) line seen more heard (live_more seen heard more) h
+live_more : (seen fed more : List (List ℕ)) → behind seen ≡ Some fed → first_live (seen ++ more) ≡ first_live seen
+live_more [] fed more h = absurd (let e = h in cc)
+live_more (line ∷ seen) fed more h = live_by (is_live line) line seen more fed (live_more seen fed more) h
 
 live_by_none : (t : Bool) (other line : List ℕ) (seen more : List (List ℕ))
     → (behind seen ≡ None → first_live (seen ++ line ∷ more) ≡ line) → cond t (Some seen) (behind seen) ≡ None
@@ -101,11 +101,11 @@ live_at [] line more h is = ap (λ (t : Bool). cond t line (first_live more)) is
 live_at (other ∷ seen) line more h is =
     live_by_none (is_live other) other line seen more (λ (none : behind seen ≡ None). live_at seen line more none is) h
 
-lines_more : (heard : List (List ℕ)) (line : List ℕ) → kept_lines (heard ++ line ∷ []) ≡ kept_lines heard ++ kept_line line
+lines_more : (fed : List (List ℕ)) (line : List ℕ) → kept_lines (fed ++ line ∷ []) ≡ kept_lines fed ++ kept_line line
 lines_more [] line = append-nil (kept_line line)
-lines_more (first ∷ heard) line =
-    ap (λ (l : List KeptText). kept_line first ++ l) (lines_more heard line)
-    ∙ sym (append_assoc (kept_line first) (kept_lines heard) (kept_line line))
+lines_more (first ∷ fed) line =
+    ap (λ (l : List KeptText). kept_line first ++ l) (lines_more fed line)
+    ∙ sym (append_assoc (kept_line first) (kept_lines fed) (kept_line line))
 
 -- before the live line nothing is kept
 pub kept_none : (seen : List (List ℕ)) → behind seen ≡ None → kept_in seen ≡ []
@@ -121,14 +121,14 @@ kept_at seen line none live =
     ∙ ap (kept_head (concat seen)) (live_at seen line [] none live)
 
 -- behind it, a line more is kept as a line
-pub kept_more : (seen heard : List (List ℕ)) (line : List ℕ) → behind seen ≡ Some heard
+pub kept_more : (seen fed : List (List ℕ)) (line : List ℕ) → behind seen ≡ Some fed
     → kept_in (seen ++ line ∷ []) ≡ kept_in seen ++ kept_line line
-kept_more seen heard line h =
-    let (front, back) = goes_on seen heard (line ∷ []) h in
+kept_more seen fed line h =
+    let (front, back) = goes_on seen fed (line ∷ []) h in
     let head = kept_head (concat (before seen)) (first_live seen) in
     ap (kept_since (seen ++ line ∷ [])) back
-    ∙ ap (λ (ls : List (List ℕ)). kept_head (concat ls) (first_live (seen ++ line ∷ [])) ++ kept_lines (heard ++ line ∷ [])) front
-    ∙ ap (λ (l : List ℕ). kept_head (concat (before seen)) l ++ kept_lines (heard ++ line ∷ [])) (live_more seen heard (line ∷ []) h)
-    ∙ ap (λ (l : List KeptText). head ++ l) (lines_more heard line)
-    ∙ sym (append_assoc head (kept_lines heard) (kept_line line))
+    ∙ ap (λ (ls : List (List ℕ)). kept_head (concat ls) (first_live (seen ++ line ∷ [])) ++ kept_lines (fed ++ line ∷ [])) front
+    ∙ ap (λ (l : List ℕ). kept_head (concat (before seen)) l ++ kept_lines (fed ++ line ∷ [])) (live_more seen fed (line ∷ []) h)
+    ∙ ap (λ (l : List KeptText). head ++ l) (lines_more fed line)
+    ∙ sym (append_assoc head (kept_lines fed) (kept_line line))
     ∙ ap (λ (l : List KeptText). l ++ kept_line line) (sym (ap (kept_since seen) h))

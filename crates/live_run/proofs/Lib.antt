@@ -1,7 +1,7 @@
 pub mod BaseLemmas
 pub mod CifLemmas
 pub mod CutLemmas
-pub mod EarLemmas
+pub mod FeedLemmas
 pub mod KeptLemmas
 pub mod LineLemmas
 pub mod PastLemmas

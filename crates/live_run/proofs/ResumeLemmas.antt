@@ -33,7 +33,7 @@ use Rattle.job_text.specs.Live.{live_line}
 use Rattle.job_text.specs.Words.{words_of}
 use Rattle.byte_io.specs.Lines.{lines}
 use Rattle.live_run.specs.Cif.{before, behind, cif_from, cif_of, is_ended, is_live, whole}
-use Rattle.live_run.specs.Ear.{is_not_newline}
+use Rattle.live_run.specs.Feed.{is_not_newline}
 use Rattle.live_run.specs.Journal.{
   KeptText,
   bytes_of,
@@ -103,21 +103,21 @@ lines_two (line ∷ front) back (is, all) more = (is, lines_two front back all m
 
 -- ---- the parts of lines
 
-record Parts (all heard : List (List ℕ)) : Type 0 where
+record Parts (all fed : List (List ℕ)) : Type 0 where
   front : AreWholeLines (before all)
   at : IsWholeLine (first_live all)
-  back : AreWholeLines heard
+  back : AreWholeLines fed
   live : is_live (first_live all) ≡ true
   none : behind (before all) ≡ None
 
-parts_by : (t : Bool) (line : List ℕ) (all heard : List (List ℕ)) → is_live line ≡ t → IsWholeLine line → AreWholeLines all
-    → (behind all ≡ Some heard → Parts all heard) → cond t (Some all) (behind all) ≡ Some heard
-    → AreWholeLines (cond t [] (line ∷ before all)) × IsWholeLine (cond t line (first_live all)) × AreWholeLines heard
+parts_by : (t : Bool) (line : List ℕ) (all fed : List (List ℕ)) → is_live line ≡ t → IsWholeLine line → AreWholeLines all
+    → (behind all ≡ Some fed → Parts all fed) → cond t (Some all) (behind all) ≡ Some fed
+    → AreWholeLines (cond t [] (line ∷ before all)) × IsWholeLine (cond t line (first_live all)) × AreWholeLines fed
     × (is_live (cond t line (first_live all)) ≡ true) × (behind (cond t [] (line ∷ before all)) ≡ None)
-parts_by true line all heard is one are on h =
-    let same : all ≡ heard = cc in
+parts_by true line all fed is one are on h =
+    let same : all ≡ fed = cc in
     (tt, one, subst AreWholeLines same are, is, refl)
-parts_by false line all heard is one are on h =
+parts_by false line all fed is one are on h =
     let p = on h in (
       (one, p.front),
       p.at,
@@ -126,10 +126,10 @@ parts_by false line all heard is one are on h =
       ap (λ (t : Bool). cond t (Some (before all)) (behind (before all))) is ∙ p.none,
     )
 
-parts_of : (all heard : List (List ℕ)) → AreWholeLines all → behind all ≡ Some heard → Parts all heard
-parts_of [] heard are h = absurd (let e = h in cc)
-parts_of (line ∷ all) heard (one, are) h =
-    let (front, at, back, live, none) = parts_by (is_live line) line all heard refl one are (parts_of all heard are) h in
+parts_of : (all fed : List (List ℕ)) → AreWholeLines all → behind all ≡ Some fed → Parts all fed
+parts_of [] fed are h = absurd (let e = h in cc)
+parts_of (line ∷ all) fed (one, are) h =
+    let (front, at, back, live, none) = parts_by (is_live line) line all fed refl one are (parts_of all fed are) h in
     record { front = front; at = at; back = back; live = live; none = none }
 
 -- ---- the lines that are kept
@@ -155,25 +155,25 @@ kept_are : (keeping : Option Bool) (line : List ℕ) → IsWholeLine line → Ar
 kept_are None line is = tt
 kept_are (Some flushed) line is = (is, tt)
 
-stepping_bytes : (heard : List (List ℕ)) → AreWholeLines heard → bytes_of (kept_lines heard) ≡ concat (stepping heard)
+stepping_bytes : (fed : List (List ℕ)) → AreWholeLines fed → bytes_of (kept_lines fed) ≡ concat (stepping fed)
 stepping_bytes [] all = refl
-stepping_bytes (line ∷ heard) (is, all) =
+stepping_bytes (line ∷ fed) (is, all) =
     let keeping = keeping_of (live_line (words_of line)) in
-    bytes_two (entries_by keeping line) (kept_lines heard)
-    ∙ ap (λ (l : List ℕ). l ++ bytes_of (kept_lines heard)) (entry_bytes keeping line is)
-    ∙ ap (λ (l : List ℕ). concat (kept_by keeping line) ++ l) (stepping_bytes heard all)
-    ∙ sym (concat_two (kept_by keeping line) (stepping heard))
+    bytes_two (entries_by keeping line) (kept_lines fed)
+    ∙ ap (λ (l : List ℕ). l ++ bytes_of (kept_lines fed)) (entry_bytes keeping line is)
+    ∙ ap (λ (l : List ℕ). concat (kept_by keeping line) ++ l) (stepping_bytes fed all)
+    ∙ sym (concat_two (kept_by keeping line) (stepping fed))
 
-stepping_are : (heard : List (List ℕ)) → AreWholeLines heard → AreWholeLines (stepping heard)
+stepping_are : (fed : List (List ℕ)) → AreWholeLines fed → AreWholeLines (stepping fed)
 stepping_are [] all = tt
-stepping_are (line ∷ heard) (is, all) =
+stepping_are (line ∷ fed) (is, all) =
     let keeping = keeping_of (live_line (words_of line)) in
-    lines_two (kept_by keeping line) (stepping heard) (kept_are keeping line is) (stepping_are heard all)
+    lines_two (kept_by keeping line) (stepping fed) (kept_are keeping line is) (stepping_are fed all)
 
 -- ---- where they lead
 
 Alike : List (List ℕ) → Type 0
-Alike heard = (a b : LiveRun) → SameSteps a b → SameSteps (after_lines a (stepping heard)) (after_lines b heard)
+Alike fed = (a b : LiveRun) → SameSteps a b → SameSteps (after_lines a (stepping fed)) (after_lines b fed)
 
 step_alike : (a b : LiveRun) (session : ℕ) (step : StepOf) → SameSteps a b
     → SameSteps (after_step a session step).0 (after_step b session step).0
@@ -185,49 +185,49 @@ step_alike a b session step h = record {
   taken = ap (λ (l : List ℕ). slice_set l session (slice_index l session + 1)) h.taken;
 }
 
-alike_on : (said : LiveLine) (line : List ℕ) (heard : List (List ℕ)) (a b : LiveRun) → live_line (words_of line) ≡ said → Alike heard
-    → SameSteps a b → SameSteps (after_lines a (kept_by (keeping_of said) line ++ stepping heard)) (after_lines (answered b said).0 heard)
+alike_on : (said : LiveLine) (line : List ℕ) (fed : List (List ℕ)) (a b : LiveRun) → live_line (words_of line) ≡ said → Alike fed
+    → SameSteps a b → SameSteps (after_lines a (kept_by (keeping_of said) line ++ stepping fed)) (after_lines (answered b said).0 fed)
 unfolding Alike after_line
-alike_on Blank line heard a b is on h =
+alike_on Blank line fed a b is on h =
     on a (one_more b) (record { state = h.state; sessions = h.sessions; replies = h.replies; taken = h.taken })
-alike_on (Step session step) line heard a b is on h =
-    subst (λ (r : LiveRun). SameSteps (after_lines r (stepping heard)) (after_lines (after_step b session step).0 heard))
+alike_on (Step session step) line fed a b is on h =
+    subst (λ (r : LiveRun). SameSteps (after_lines r (stepping fed)) (after_lines (after_step b session step).0 fed))
     (sym (ap (λ (s : LiveLine). (answered a s).0) is))
     (on (after_step a session step).0 (after_step b session step).0 (step_alike a b session step h))
-alike_on Write line heard a b is on h =
+alike_on Write line fed a b is on h =
     on a (one_more b) (record { state = h.state; sessions = h.sessions; replies = h.replies; taken = h.taken })
-alike_on (Ask question) line heard a b is on h =
+alike_on (Ask question) line fed a b is on h =
     on a (one_more b) (record { state = h.state; sessions = h.sessions; replies = h.replies; taken = h.taken })
-alike_on Unknown line heard a b is on h =
+alike_on Unknown line fed a b is on h =
     on a (one_more b) (record { state = h.state; sessions = h.sessions; replies = h.replies; taken = h.taken })
 
-alike : (heard : List (List ℕ)) → Alike heard
+alike : (fed : List (List ℕ)) → Alike fed
 unfolding Alike after_line
 alike [] a b h = h
-alike (line ∷ heard) a b h = alike_on (live_line (words_of line)) line heard a b refl (alike heard) h
+alike (line ∷ fed) a b h = alike_on (live_line (words_of line)) line fed a b refl (alike fed) h
 
 -- ---- the law
 
 pub journals_lead : JournalsResume
 unfolding Alike
-journals_lead showing all heard first cut are h (cif, file, is, means, begun) inside =
-    let p = parts_of all heard are h in
+journals_lead showing all fed first cut are h (cif, file, is, means, begun) inside =
+    let p = parts_of all fed are h in
     let front = before all in
     let line = first_live all in
-    let kept = front ++ line ∷ stepping heard in
+    let kept = front ++ line ∷ stepping fed in
     let same : bytes_of (kept_in all) ≡ concat kept =
     ap (λ rest. bytes_of (kept_since all rest)) h
-    ∙ ap (λ (l : List ℕ). l ++ (as_line line ++ bytes_of (kept_lines heard))) (lines_same front p.front)
-    ∙ ap (λ (l : List ℕ). concat front ++ (l ++ bytes_of (kept_lines heard))) (line_same line p.at)
-    ∙ ap (λ (l : List ℕ). concat front ++ (line ++ l)) (stepping_bytes heard p.back)
-    ∙ sym (concat_two front (line ∷ stepping heard)) in
-    let lines_are : AreWholeLines kept = lines_two front (line ∷ stepping heard) p.front (p.at, stepping_are heard p.back) in
+    ∙ ap (λ (l : List ℕ). l ++ (as_line line ++ bytes_of (kept_lines fed))) (lines_same front p.front)
+    ∙ ap (λ (l : List ℕ). concat front ++ (l ++ bytes_of (kept_lines fed))) (line_same line p.at)
+    ∙ ap (λ (l : List ℕ). concat front ++ (line ++ l)) (stepping_bytes fed p.back)
+    ∙ sym (concat_two front (line ∷ stepping fed)) in
+    let lines_are : AreWholeLines kept = lines_two front (line ∷ stepping fed) p.front (p.at, stepping_are fed p.back) in
     let wholes : whole (bytes_of (kept_in all) ++ cut) ≡ kept =
     ap (λ (l : List ℕ). whole (l ++ cut)) same ∙ whole_concat kept cut lines_are inside in
-    let text : cif_of kept ≡ cif_of all = cif_at front line (stepping heard) p.none p.live
+    let text : cif_of kept ≡ cif_of all = cif_at front line (stepping fed) p.none p.live
     ∙ ap (λ rest. cif_from (length front + 1) (is_some rest) (job_of (concat front))) (sym h) in (
-      stepping heard,
-      ap behind wholes ∙ behind_at front line (stepping heard) p.none p.live,
+      stepping fed,
+      ap behind wholes ∙ behind_at front line (stepping fed) p.none p.live,
       subst (λ (ls : List (List ℕ)). IsFirstRun showing ls first) (sym wholes) (cif, file, text ∙ is, means, begun),
-      alike heard first first (record { state = refl; sessions = refl; replies = refl; taken = refl }),
+      alike fed first first (record { state = refl; sessions = refl; replies = refl; taken = refl }),
     )

@@ -8,9 +8,9 @@ use Rattle.live_run.specs.declared.ending.LiveEnd.TheVariants.{Cif, Device, Done
 use Rattle.live_run.specs.Ending.{IsBroken, IsEnd, IsEnded, IsStop, Past, Tells, no_past}
 use Rattle.live_run.specs.Journal.{KeptText}
 use Rattle.live_run.specs.Course.{InHead, Phase}
-use Rattle.live_run.specs.Ear.{Hears, IsAt}
+use Rattle.live_run.specs.Feed.{Feeds, IsAt}
 use Rattle.live_run.proofs.CutLemmas.{cut_none}
-use Rattle.live_run.proofs.EarLemmas.{all_answered}
+use Rattle.live_run.proofs.FeedLemmas.{all_answered}
 
 tells_by : (past : Past) (a b : Type 0) (given : List ℕ) (told : List (List ℕ)) → (a → b) → Tells past given a told
     → Tells past given b told
@@ -32,11 +32,11 @@ module _ {O J : Type 0} (showing : Showing) (written : O → Option (List ℕ)) 
     stop_by a b base out given Memory f stop = stop
 
     -- before the first byte
-    pub hears_none : (out : O × J) (phase : Phase) (line : List ℕ) → past ≡ no_past → phase ≡ InHead [] 0 → line ≡ []
-        → Hears showing written failures kept losses past out out [] phase line
-    hears_none out phase line fresh is none =
-        subst (λ (p : Phase). Hears showing written failures kept losses past out out [] p line) (sym is)
-        (subst (λ (l : List ℕ). Hears showing written failures kept losses past out out [] (InHead [] 0) l) (sym none) (
+    pub feeds_none : (out : O × J) (phase : Phase) (line : List ℕ) → past ≡ no_past → phase ≡ InHead [] 0 → line ≡ []
+        → Feeds showing written failures kept losses past out out [] phase line
+    feeds_none out phase line fresh is none =
+        subst (λ (p : Phase). Feeds showing written failures kept losses past out out [] p line) (sym is)
+        (subst (λ (l : List ℕ). Feeds showing written failures kept losses past out out [] (InHead [] 0) l) (sym none) (
           [],
           cut_none,
           subst (λ (p : Past). IsAt showing written failures kept losses p out out (p.lines ++ []) (InHead [] 0)) (sym fresh)
@@ -46,11 +46,11 @@ module _ {O J : Type 0} (showing : Showing) (written : O → Option (List ℕ)) 
     module _ {I : Type 0} (counts : I → Counts) where
       -- the input is broken
       pub run_broken : (input input' : I) (out out' : O × J) (given : List ℕ) (phase : Phase) (line : List ℕ)
-          → Hears showing written failures kept losses past out out' given phase line
+          → Feeds showing written failures kept losses past out out' given phase line
           → IsBroken (counts input) (counts input')
           → IsEnd showing written failures kept losses past out out' given (counts input) (counts input') Device
-      run_broken input input' out out' given phase line hears broken =
-          inr (refl, broken, all_answered showing written failures kept losses past out out' given phase line hears)
+      run_broken input input' out out' given phase line feeds broken =
+          inr (refl, broken, all_answered showing written failures kept losses past out out' given phase line feeds)
 
       -- the run stopped in these bytes
       pub run_stopped : (input input' : I) (out out' : O × J) (given : List ℕ) (end : LiveEnd)

@@ -43,17 +43,17 @@ use Rattle.live_run.specs.Ending.{
   whole_lines,
 }
 use Rattle.live_run.specs.Journal.{KeptText, KeptAll, KeptPart, kept_head, kept_in, kept_line}
-use Rattle.live_run.specs.Course.{ClosesTo, HeadTo, HearsTo, InHead, InSteps, LiveTo, Phase, RefusesHead, RunCloses, phase_of}
-use Rattle.live_run.specs.Ear.{IsAt}
+use Rattle.live_run.specs.Course.{ClosesTo, HeadTo, FeedsTo, InHead, InSteps, LiveTo, Phase, RefusesHead, RunCloses, phase_of}
+use Rattle.live_run.specs.Feed.{IsAt}
 use Rattle.live_run.proofs.CifLemmas.{after_more, answers_more, before_all, before_at, behind_at, behind_none, cif_at, cif_more}
 use Rattle.live_run.proofs.CifLemmas.{cif_none, concat_more}
 use Rattle.live_run.proofs.CifLemmas.{behind_more, behind_other, length_more}
 use Rattle.live_run.proofs.KeptLemmas.{kept_at, kept_more, kept_none, kept_nothing, kept_part_then, kept_then}
 
 -- a run begins so behind more lines too
-first_more : (showing : Showing) (seen heard more : List (List ℕ)) (first : LiveRun) → behind seen ≡ Some heard
+first_more : (showing : Showing) (seen fed more : List (List ℕ)) (first : LiveRun) → behind seen ≡ Some fed
     → IsFirstRun showing seen first → IsFirstRun showing (seen ++ more) first
-first_more showing seen heard more first h (cif, file, is, means, same) = (cif, file, cif_more seen heard more h ∙ is, means, same)
+first_more showing seen fed more first h (cif, file, is, means, same) = (cif, file, cif_more seen fed more h ∙ is, means, same)
 
 -- these lines, and one that ends up among all lines or among the whole ones
 abbrev pub Holds : Past → Type 0 → List ℕ → List (List ℕ) → List ℕ → Type 0
@@ -110,9 +110,9 @@ unopened_cif seen head count fault text none joined counted cif from means is = 
 said_nothing : (showing : Showing) (seen : List (List ℕ)) → behind seen ≡ None → IsSaid showing seen []
 said_nothing showing seen none = subst (λ rest. IsSaidBehind showing seen rest []) (sym none) refl
 
-pub said_answers : (showing : Showing) (seen heard : List (List ℕ)) (first : LiveRun) (said : List ℕ) → behind seen ≡ Some heard
-    → IsFirstRun showing seen first → AreAnswered first heard said → IsSaid showing seen said
-said_answers showing seen heard first said h is are =
+pub said_answers : (showing : Showing) (seen fed : List (List ℕ)) (first : LiveRun) (said : List ℕ) → behind seen ≡ Some fed
+    → IsFirstRun showing seen first → AreAnswered first fed said → IsSaid showing seen said
+said_answers showing seen fed first said h is are =
     subst (λ rest. IsSaidBehind showing seen rest said) (sym h) (first, is, are)
 
 module _ {O J : Type 0} (showing : Showing) (written : O → Option (List ℕ)) (failures : O → ℕ) (kept : J → Option (List KeptText))
@@ -185,10 +185,10 @@ module _ {O J : Type 0} (showing : Showing) (written : O → Option (List ℕ)) 
       subst (Does written failures kept losses past base out []) (sym (kept_none seen none))
           (does_none base out fresh (ap (λ (d : O × J). d.0) same) (ap (λ (d : O × J). d.1) same)),
     )
-    said_at base out seen (InSteps run) (heard, first, h, is, ran, said, are, did) =
-        (said, said_answers showing seen heard first said h is are, did)
+    said_at base out seen (InSteps run) (fed, first, h, is, ran, said, are, did) =
+        (said, said_answers showing seen fed first said h is are, did)
 
-    -- ---- a line is heard
+    -- ---- a line is fed
 
     opened : (base out' : O × J) (seen : List (List ℕ)) (line head : List ℕ) (count : ℕ) (t : Bool) (course : Course) → is_live line ≡ t
         → behind seen ≡ None → head ≡ concat seen → count ≡ length seen → past ≡ no_past → out'.0 ≡ base.0
@@ -228,33 +228,33 @@ module _ {O J : Type 0} (showing : Showing) (written : O → Option (List ℕ)) 
           ),
         )
 
-    pub heard_line : (base out out' : O × J) (seen : List (List ℕ)) (line : List ℕ) (phase : Phase) (course : Course)
+    pub fed_line : (base out out' : O × J) (seen : List (List ℕ)) (line : List ℕ) (phase : Phase) (course : Course)
         → IsAt showing written failures kept losses past base out seen phase
-        → HearsTo showing written failures kept losses out out' phase line (Ok course)
+        → FeedsTo showing written failures kept losses out out' phase line (Ok course)
         → IsAt showing written failures kept losses past base out' (seen ++ line ∷ []) (phase_of course)
-    heard_line base out out' seen line (InHead head count) course (none, joined, counted, fresh, same) (still, to) =
+    fed_line base out out' seen line (InHead head count) course (none, joined, counted, fresh, same) (still, to) =
         opened base out' seen line head count (is_live line) course refl none joined counted fresh
         (still ∙ ap (λ (d : O × J). d.0) same)
         (subst (λ (d : O × J). HeadTo showing kept losses d.1 out'.1 (is_live line) head count line (Ok course)) same to)
-    heard_line base out out' seen line (InSteps run) course (heard, first, h, is, ran, said, are, did) (led, (text, so, put, keep)) =
-        let took = after_line (after_lines first heard) line in
+    fed_line base out out' seen line (InSteps run) course (fed, first, h, is, ran, said, are, did) (led, (text, so, put, keep)) =
+        let took = after_line (after_lines first fed) line in
         let led' : phase_of course ≡ InSteps took.0 = led ∙ ap (λ (r : LiveRun). InSteps (after_line r line).0) ran in
         let so' : IsSaidText took text = subst (λ (r : LiveRun). IsSaidText (after_line r line) text) ran so in
         let did' = does_then base out out' said text (kept_in seen) (kept_line line) did put keep in
         subst (IsAt showing written failures kept losses past base out' (seen ++ line ∷ [])) (sym led') (
-          heard ++ line ∷ [],
+          fed ++ line ∷ [],
           first,
-          behind_more seen heard (line ∷ []) h,
-          first_more showing seen heard (line ∷ []) first h is,
-          sym (after_more first heard line),
+          behind_more seen fed (line ∷ []) h,
+          first_more showing seen fed (line ∷ []) first h is,
+          sym (after_more first fed line),
           said ++ text,
-          answers_more first heard line said text are so',
-          subst (Does written failures kept losses past base out' (said ++ text)) (sym (kept_more seen heard line h)) did',
+          answers_more first fed line said text are so',
+          subst (Does written failures kept losses past base out' (said ++ text)) (sym (kept_more seen fed line h)) did',
         )
 
     -- ---- a run stops at a line
 
-    -- a run that is refused memory has answered what it heard
+    -- a run that is refused memory has answered what it fed
     pub stops_memory : (ended : Type 0) (base out out' : O × J) (seen : List (List ℕ)) (phase : Phase) (given : List ℕ)
         (unseen : List (List ℕ))
         → all_lines past given ≡ seen ++ unseen → IsAt showing written failures kept losses past base out seen phase → out'.0 ≡ out.0
@@ -327,31 +327,31 @@ module _ {O J : Type 0} (showing : Showing) (written : O → Option (List ℕ)) 
     run_stops : (ended : Type 0) (base out out' : O × J) (seen : List (List ℕ)) (line : List ℕ) (run : LiveRun) (given : List ℕ)
         (unseen : List (List ℕ)) (end : LiveEnd) → all_lines past given ≡ seen ++ line ∷ unseen
         → IsAt showing written failures kept losses past base out seen (InSteps run)
-        → HearsTo showing written failures kept losses out out' (InSteps run) line (Err end)
+        → FeedsTo showing written failures kept losses out out' (InSteps run) line (Err end)
         → IsStop showing written failures kept losses past base out' given ended end
     run_stops ended base out out' seen line run given unseen (Done any notes) all at r = absurd r
     run_stops ended base out out' seen line run given unseen (Job n text) all at r = absurd r
     run_stops ended base out out' seen line run given unseen (Cif fault text) all at r = absurd r
-    run_stops ended base out out' seen line run given unseen Device all (heard, first, h, is, ran, said, are, did) (text, so, r, keep) =
-        let so' : IsSaidText (after_line (after_lines first heard) line) text =
+    run_stops ended base out out' seen line run given unseen Device all (fed, first, h, is, ran, said, are, did) (text, so, r, keep) =
+        let so' : IsSaidText (after_line (after_lines first fed) line) text =
         subst (λ (r : LiveRun). IsSaidText (after_line r line) text) ran so in
         let did' = part_then base out out' said text (kept_in seen) (kept_line line) did r keep in (
           seen ++ line ∷ [],
           unseen,
           said ++ text,
           append_assoc seen (line ∷ []) unseen ∙ sym all,
-          inl (said_answers showing (seen ++ line ∷ []) (heard ++ line ∷ []) first (said ++ text) (behind_more seen heard (line ∷ []) h)
-              (first_more showing seen heard (line ∷ []) first h is) (answers_more first heard line said text are so')),
-          subst (WritesPart written failures kept losses past base out' (said ++ text)) (sym (kept_more seen heard line h)) did',
+          inl (said_answers showing (seen ++ line ∷ []) (fed ++ line ∷ []) first (said ++ text) (behind_more seen fed (line ∷ []) h)
+              (first_more showing seen fed (line ∷ []) first h is) (answers_more first fed line said text are so')),
+          subst (WritesPart written failures kept losses past base out' (said ++ text)) (sym (kept_more seen fed line h)) did',
         )
-    run_stops ended base out out' seen line run given unseen Journal all (heard, first, h, is, ran, said, are, did) (still, lost) = (
+    run_stops ended base out out' seen line run given unseen Journal all (fed, first, h, is, ran, said, are, did) (still, lost) = (
       seen,
       unseen,
       line,
       said,
       sym all,
-      said_answers showing seen heard first said h is are,
-      subst (KeepsPart written failures kept losses past base out' said) (sym (kept_more seen heard line h))
+      said_answers showing seen fed first said h is are,
+      subst (KeepsPart written failures kept losses past base out' said) (sym (kept_more seen fed line h))
           (lost_then base out out' said (kept_in seen) (kept_line line) did still lost),
     )
     run_stops ended base out out' seen line run given unseen Memory all at (still, same) =
@@ -359,7 +359,7 @@ module _ {O J : Type 0} (showing : Showing) (written : O → Option (List ℕ)) 
 
     pub stops_line : (ended : Type 0) (base out out' : O × J) (seen : List (List ℕ)) (line : List ℕ) (phase : Phase) (given : List ℕ)
         (unseen : List (List ℕ)) (end : LiveEnd) → all_lines past given ≡ seen ++ line ∷ unseen → Holds past ended given seen line
-        → IsAt showing written failures kept losses past base out seen phase → HearsTo showing written failures kept losses out out'
+        → IsAt showing written failures kept losses past base out seen phase → FeedsTo showing written failures kept losses out out'
         phase line (Err end)
         → IsStop showing written failures kept losses past base out' given ended end
     stops_line ended base out out' seen line (InHead head count) given unseen end all holds (none, joined, counted, fresh, same)
@@ -404,28 +404,28 @@ module _ {O J : Type 0} (showing : Showing) (written : O → Option (List ℕ)) 
         → all_lines past given ≡ seen → IsAt showing written failures kept losses past base out seen (InSteps run)
         → RunCloses written failures out.0 out'.0 run end → out'.1 ≡ out.1
         → IsStop showing written failures kept losses past base out' given ⊤ end
-    run_closes base out out' seen run given (Done any notes) all (heard, first, h, is, ran, said, are, did) (last, so, put, flag) same =
-        let so' : IsNotedClosing (after_lines first heard) notes last = subst (λ (r : LiveRun). IsNotedClosing r notes last) ran so in
+    run_closes base out out' seen run given (Done any notes) all (fed, first, h, is, ran, said, are, did) (last, so, put, flag) same =
+        let so' : IsNotedClosing (after_lines first fed) notes last = subst (λ (r : LiveRun). IsNotedClosing r notes last) ran so in
         let did' = does_then base out out' said last (kept_in seen) [] did put (kept_nothing kept losses out.1 out'.1 same) in (
           tt,
           said ++ last,
           subst (λ (ls : List (List ℕ)). IsNotedWhole showing ls notes (said ++ last)) (sym all)
-              (heard, first, h, is, said, last, are, so', refl),
+              (fed, first, h, is, said, last, are, so', refl),
           subst (λ (ls : List (List ℕ)). HaveRefused showing ls any) (sym all)
-              (heard, first, h, is, flag ∙ ap has_refused ran),
+              (fed, first, h, is, flag ∙ ap has_refused ran),
           subst (Does written failures kept losses past base out' (said ++ last))
               (append-nil (kept_in seen) ∙ ap kept_in (sym all)) did',
         )
     run_closes base out out' seen run given (Job n text) all at r same = absurd r
     run_closes base out out' seen run given (Cif fault text) all at r same = absurd r
-    run_closes base out out' seen run given Device all (heard, first, h, is, ran, said, are, did) (last, so, put) same =
-        let so' : IsClosing (after_lines first heard) last = subst (λ (r : LiveRun). IsClosing r last) ran so in
+    run_closes base out out' seen run given Device all (fed, first, h, is, ran, said, are, did) (last, so, put) same =
+        let so' : IsClosing (after_lines first fed) last = subst (λ (r : LiveRun). IsClosing r last) ran so in
         let did' = part_then base out out' said last (kept_in seen) [] did put (kept_nothing kept losses out.1 out'.1 same) in (
           seen,
           [],
           said ++ last,
           append-nil seen ∙ sym all,
-          inr ((heard, first, h, is, said, last, are, so', refl), refl),
+          inr ((fed, first, h, is, said, last, are, so', refl), refl),
           subst (WritesPart written failures kept losses past base out' (said ++ last)) (append-nil (kept_in seen)) did',
         )
     run_closes base out out' seen run given Journal all at r same = absurd r

@@ -171,7 +171,7 @@ module _ {O J : Type 0} (written : O → Option (List ℕ)) (failures : O → �
 module _ {O J : Type 0} (showing : Showing) (written : O → Option (List ℕ)) (failures : O → ℕ) (kept : J → Option (List KeptText))
     (losses : J → ℕ) (out out' : O × J) where
   -- what a line leads to
-  abbrev pub HearsTo : Phase → List ℕ → Result Course LiveEnd → Type 0
-  HearsTo (InHead head count) line result =
+  abbrev pub FeedsTo : Phase → List ℕ → Result Course LiveEnd → Type 0
+  FeedsTo (InHead head count) line result =
       (out'.0 ≡ out.0) × HeadTo showing kept losses out.1 out'.1 (is_live line) head count line result
-  HearsTo (InSteps run) line result = AnswersTo written failures kept losses out out' (after_line run line) (kept_line line) result
+  FeedsTo (InSteps run) line result = AnswersTo written failures kept losses out out' (after_line run line) (kept_line line) result

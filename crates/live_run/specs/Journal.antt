@@ -85,7 +85,7 @@ first_live (line ∷ lines) = if is_live line then line else first_live lines
 
 abbrev pub kept_since : List (List ℕ) → Option (List (List ℕ)) → List KeptText
 kept_since lines None = []
-kept_since lines (Some heard) = kept_head (concat (before lines)) (first_live lines) ++ kept_lines heard
+kept_since lines (Some fed) = kept_head (concat (before lines)) (first_live lines) ++ kept_lines fed
 
 -- what is kept of lines: nothing before the live line has come
 abbrev pub kept_in : List (List ℕ) → List KeptText

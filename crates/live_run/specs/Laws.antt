@@ -10,7 +10,7 @@ use Rattle.job_text.specs.declared.live.LiveLine.TheVariants.{Ask, Blank, Unknow
 use Rattle.job_text.specs.Live.{live_line}
 use Rattle.job_text.specs.Words.{words_of}
 use Rattle.live_run.specs.Cif.{behind, whole}
-use Rattle.live_run.specs.Ear.{is_not_newline}
+use Rattle.live_run.specs.Feed.{is_not_newline}
 use Rattle.live_run.specs.Journal.{bytes_of, kept_in}
 use Rattle.live_run.specs.Live.{LiveRun, Said, after_line, after_lines, before_first_line}
 use Rattle.live_run.specs.Said.{AreAnswered, IsClosing, IsFirstRun, shown_named, order_said}
@@ -59,11 +59,11 @@ pub record SameSteps (a b : LiveRun) : Type 0 where
 -- what a journal has of lines, and of the next line any bytes but its newline: a run that begins from it begins where the run of
 -- those lines stands
 abbrev pub JournalsResume : Type 0
-JournalsResume = (showing : Showing) (lines heard : List (List ℕ)) (first : LiveRun) (cut : List ℕ) → AreWholeLines lines
-    → behind lines ≡ Some heard → IsFirstRun showing lines first → list_all is_not_newline cut ≡ true
+JournalsResume = (showing : Showing) (lines fed : List (List ℕ)) (first : LiveRun) (cut : List ℕ) → AreWholeLines lines
+    → behind lines ≡ Some fed → IsFirstRun showing lines first → list_all is_not_newline cut ≡ true
     → (kept : List (List ℕ)) × (behind (whole (bytes_of (kept_in lines) ++ cut)) ≡ Some kept)
     × IsFirstRun showing (whole (bytes_of (kept_in lines) ++ cut)) first
-    × SameSteps (after_lines first kept) (after_lines first heard)
+    × SameSteps (after_lines first kept) (after_lines first fed)
 
 -- what a line is answered where shapes stay as they are: a comment, and the layout that the line left, where it is wanted
 abbrev pub said_text : LiveRun × Said → List ℕ

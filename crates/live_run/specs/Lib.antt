@@ -1,7 +1,7 @@
 pub mod Cif
 pub mod Course
 pub mod Devices
-pub mod Ear
+pub mod LineFeed
 pub mod Ending
 pub mod Journal
 pub mod Laws

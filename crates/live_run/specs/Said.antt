@@ -69,7 +69,7 @@ IsFirstRun showing lines first =
 -- what is said, by the lines behind the live line
 abbrev pub IsSaidBehind : Showing → List (List ℕ) → Option (List (List ℕ)) → List ℕ → Type 0
 IsSaidBehind showing lines None said = said ≡ []
-IsSaidBehind showing lines (Some heard) said = (first : LiveRun) × IsFirstRun showing lines first × AreAnswered first heard said
+IsSaidBehind showing lines (Some fed) said = (first : LiveRun) × IsFirstRun showing lines first × AreAnswered first fed said
 
 -- what is said once these lines came: nothing before the live line, and behind it the answer of each line
 abbrev pub IsSaid : Showing → List (List ℕ) → List ℕ → Type 0
@@ -78,19 +78,19 @@ IsSaid showing lines said = IsSaidBehind showing lines (behind lines) said
 -- what is said in all where these lines were all
 abbrev pub IsWhole : Showing → List (List ℕ) → List ℕ → Type 0
 IsWhole showing lines said =
-    (heard : List (List ℕ)) × (first : LiveRun) × (behind lines ≡ Some heard) × IsFirstRun showing lines first
-    × (answered closed : List ℕ) × AreAnswered first heard answered × IsClosing (after_lines first heard) closed
+    (fed : List (List ℕ)) × (first : LiveRun) × (behind lines ≡ Some fed) × IsFirstRun showing lines first
+    × (answered closed : List ℕ) × AreAnswered first fed answered × IsClosing (after_lines first fed) closed
     × (said ≡ answered ++ closed)
 
 -- the same, and these are the notes of the layout at the end
 abbrev pub IsNotedWhole : Showing → List (List ℕ) → EndNotes → List ℕ → Type 0
 IsNotedWhole showing lines notes said =
-    (heard : List (List ℕ)) × (first : LiveRun) × (behind lines ≡ Some heard) × IsFirstRun showing lines first
-    × (answered closed : List ℕ) × AreAnswered first heard answered × IsNotedClosing (after_lines first heard) notes closed
+    (fed : List (List ℕ)) × (first : LiveRun) × (behind lines ≡ Some fed) × IsFirstRun showing lines first
+    × (answered closed : List ℕ) × AreAnswered first fed answered × IsNotedClosing (after_lines first fed) notes closed
     × (said ≡ answered ++ closed)
 
 -- where these lines were all, a step of theirs was refused, or none was
 abbrev pub HaveRefused : Showing → List (List ℕ) → Bool → Type 0
 HaveRefused showing lines refused =
-    (heard : List (List ℕ)) × (first : LiveRun) × (behind lines ≡ Some heard) × IsFirstRun showing lines first
-    × (refused ≡ has_refused (after_lines first heard))
+    (fed : List (List ℕ)) × (first : LiveRun) × (behind lines ≡ Some fed) × IsFirstRun showing lines first
+    × (refused ≡ has_refused (after_lines first fed))

@@ -7,7 +7,7 @@ ghost use Rattle.live_run.specs.Course.{
   ClosesTo,
   GivesTo,
   HeadTo,
-  HearsTo,
+  FeedsTo,
   KeepsTo,
   LiveTo,
   PutsClosing,
@@ -41,7 +41,7 @@ pub enum Course {
 
 impl Course {
     /// Returns the course after a line, which is kept and answered at once.
-    pub(crate) fn hear<O: Out, J: Journal>(
+    pub(crate) fn feed<O: Out, J: Journal>(
         self,
         rt: &(impl Threads + Sync),
         alloc: Global,
@@ -51,12 +51,12 @@ impl Course {
         journal: &mut J,
         line: &[u8],
     ) -> Result<Course, LiveEnd>
-        ensures { HearsTo showing O.written O.failures J.kept J.losses (out.old, journal.old) (out.new, journal.new)
+        ensures { FeedsTo showing O.written O.failures J.kept J.losses (out.old, journal.old) (out.new, journal.new)
             (phase_of self) line.now result }
     {
         match self {
-            Course::Head(text, count) => hear_head(alloc, showing, text, count, journal, line),
-            Course::Steps(live) => hear_step(rt, alloc, bands, out, journal, live, line),
+            Course::Head(text, count) => feed_head(alloc, showing, text, count, journal, line),
+            Course::Steps(live) => feed_step(rt, alloc, bands, out, journal, live, line),
         }
     }
 
@@ -82,7 +82,7 @@ fn is_live(line: &[u8]) -> bool
 }
 
 /// Returns the course after a line that follows these others, none of which is live.
-fn hear_head<J: Journal>(
+fn feed_head<J: Journal>(
     alloc: Global,
     showing: Showing,
     text: Vec<u8>,
@@ -94,7 +94,7 @@ fn hear_head<J: Journal>(
 {
     let number = count.checked_add(1).ok_or(NoMemory)?;
     if is_live(line) {
-        return hear_live(alloc, showing, text, number, journal, line);
+        return feed_live(alloc, showing, text, number, journal, line);
     }
     let mut text = text;
     text.extend_from_slice(line).map_err(|_| NoMemory)?;
@@ -102,7 +102,7 @@ fn hear_head<J: Journal>(
 }
 
 /// Returns the course after a live line of this number, which is kept after its head where a run begins.
-fn hear_live<J: Journal>(
+fn feed_live<J: Journal>(
     alloc: Global,
     showing: Showing,
     text: Vec<u8>,
@@ -145,7 +145,7 @@ fn keep_line<J: Journal>(journal: &mut J, keeping: Keeping, line: &[u8]) -> Resu
 }
 
 /// Returns the course after a line of a run, which is kept and then answered. All that takes memory comes before it is kept.
-fn hear_step<O: Out, J: Journal>(
+fn feed_step<O: Out, J: Journal>(
     rt: &(impl Threads + Sync),
     alloc: Global,
     bands: &impl Bands,

@@ -10,12 +10,12 @@
 //!
 //! A fault of the job or of its CIF text isn't written but is an end of the run, [`LiveEnd`], which
 //! the caller reports. At most [`MAX_READS`] reads are made of the input. A caller that has its input
-//! piece by piece hands it to an [`Ear`].
+//! piece by piece hands it to a [`LineFeed`].
 //!
 //! # Model
 //!
 //! - Between two bytes a run is a course, which is the lines of the head or the run after them, and
-//!   what has come of the next line (`specs/Course.antt`, `specs/Ear.antt`). It keeps no more of
+//!   what has come of the next line (`specs/Course.antt`, `specs/Feed.antt`). It keeps no more of
 //!   the input than its head and one line.
 //! - The run after the head is a machine of `session_core`, the sessions and replies of the steps
 //!   so far, and the number of lines. Contracts see these, and what a line is answered, over the
@@ -35,7 +35,7 @@
 //!
 //! # Files
 //!
-//! - `run.rt`: the run from its first byte; `ear.rt`: bytes put together to lines.
+//! - `run.rt`: the run from its first byte; `line_feed.rt`: bytes put together to lines.
 //! - `journal.rt`: where lines are kept, so that a later run can begin from them.
 //! - `course.rt`, `base.rt`: head and steps, and the layout of the head (`specs/Cif.antt`).
 //! - `live.rt`: the sessions, and what a line is answered; `put.rt`: the writing of it.
@@ -54,19 +54,19 @@
 
 mod base;
 mod course;
-mod ear;
 mod ending;
 mod journal;
 mod laws;
+mod line_feed;
 mod live;
 mod put;
 mod run;
 mod showing;
 
-pub use ear::Ear;
 pub use ending::{EndNotes, LiveEnd};
 pub use journal::{Journal, KeepFault, NoJournal};
 pub use laws::{journals_resume, lines_are_steps, plain_runs_say_one};
+pub use line_feed::LineFeed;
 pub use live::is_refusal;
 pub use run::{MAX_READS, run_journaled, run_live};
 pub use showing::{Showing, named_bytes, names_for, names_when, put_layout};

@@ -1,12 +1,12 @@
 //! A live run from the first byte of its input to its end.
 ghost use Rattle.std.specs.Prelude.{◌≡◌, ◌+◌, ◌≤◌};
 ghost use Rattle.live_run.specs.Devices.{devices, observed_by};
-ghost use Rattle.live_run.specs.Ear.{BeginsBehind, HeardAll};
+ghost use Rattle.live_run.specs.Feed.{BeginsBehind, FedAll};
 ghost use Rattle.live_run.specs.Ending.{IsJournaled, IsLiveRun};
 
-use crate::ear::Ear;
 use crate::ending::LiveEnd;
 use crate::journal::{Journal, NoJournal, Silent};
+use crate::line_feed::LineFeed;
 use crate::showing::Showing;
 use band_workers::Bands;
 use byte_io::{In, Out};
@@ -74,12 +74,12 @@ pub fn run_journaled<I: In, O: Out, J: Journal>(
         (devices input.old out.old journal.old) (devices input.new out.new journal.new) result }
     ensures reads { (I.counts input.new).reads ≤ (I.counts input.old).reads + MAX_READS }
 {
-    let ear = match begin(rt, alloc, bands, showing, bytes) {
-        Ok(ear) => ear,
+    let line_feed = match begin(rt, alloc, bands, showing, bytes) {
+        Ok(line_feed) => line_feed,
         Err(end) => return end,
     };
-    match hear_all(rt, alloc, bands, showing, ear, input, out, journal) {
-        Ok(ear) => ear.end(rt, alloc, bands, showing, out, journal),
+    match feed_all(rt, alloc, bands, showing, line_feed, input, out, journal) {
+        Ok(line_feed) => line_feed.end(rt, alloc, bands, showing, out, journal),
         Err(end) => end,
     }
 }
@@ -91,10 +91,10 @@ fn begin(
     bands: &impl Bands,
     showing: Showing,
     bytes: Vec<u8>,
-) -> Result<Ear, LiveEnd>
+) -> Result<LineFeed, LiveEnd>
     ensures { BeginsBehind showing bytes.items result }
 {
-    match Ear::new(alloc).hear_piece(
+    match LineFeed::new(alloc).feed_piece(
         rt,
         alloc,
         bands,
@@ -103,35 +103,35 @@ fn begin(
         &mut NoJournal,
         &bytes,
     ) {
-        Ok(ear) => ear.begun(alloc),
+        Ok(line_feed) => line_feed.begun(alloc),
         Err(end) => Err(end),
     }
 }
 
 /// Returns the run at the end of its input, unless it has ended before.
-fn hear_all<I: In, O: Out, J: Journal>(
+fn feed_all<I: In, O: Out, J: Journal>(
     rt: &(impl Threads + Sync),
     alloc: Global,
     bands: &impl Bands,
     showing: Showing,
-    first: Ear,
+    first: LineFeed,
     input: &mut I,
     out: &mut O,
     journal: &mut J,
-) -> Result<Ear, LiveEnd>
-    ensures heard { HeardAll showing (observed_by I.remaining I.counts O.written O.failures J.kept J.losses) first
+) -> Result<LineFeed, LiveEnd>
+    ensures fed { FedAll showing (observed_by I.remaining I.counts O.written O.failures J.kept J.losses) first
         (devices input.old out.old journal.old) (devices input.new out.new journal.new) result }
     ensures reads { (I.counts input.new).reads ≤ (I.counts input.old).reads + MAX_READS }
 {
-    let mut ear = first;
+    let mut line_feed = first;
     let mut buffer = [0; BUFFER];
     for _ in 0..MAX_READS {
         let taken = input.take(&mut buffer)?;
         if taken == 0 {
-            return Ok(ear);
+            return Ok(line_feed);
         }
-        match ear.hear_piece(rt, alloc, bands, showing, out, journal, &buffer[..taken]) {
-            Ok(next) => ear = next,
+        match line_feed.feed_piece(rt, alloc, bands, showing, out, journal, &buffer[..taken]) {
+            Ok(next) => line_feed = next,
             Err(end) => return Err(end),
         }
     }

@@ -1,12 +1,12 @@
--- it has heard nothing; or the lines of a head; or it runs
+-- it was fed nothing; or the lines of a head; or it runs
 use Rattle.std.proofs.Common.{arith, rules, ◌≡◌, ◌+◌, ◌<◌, ℕ, false, Err, ap, refl, subst, sym}
 use Rattle.std.proofs.lemmas.Grind.{common_steps}
 use Rattle.live_run.specs.declared.course.Course.{Course}
 use Rattle.live_run.specs.declared.ending.LiveEnd.TheVariants.{Memory}
 use Rattle.live_run.specs.Course.{InSteps, RefusesHead, phase_of}
-use Rattle.live_run.specs.Ear.{BegunAt, BegunTo}
+use Rattle.live_run.specs.Feed.{BegunAt, BegunTo}
 use Rattle.live_run.specs.Live.{run_of}
-use Rattle.live_run.proofs.ear.Ear.begun.Goals as goal
+use Rattle.live_run.proofs.line_feed.LineFeed.begun.Goals as goal
 
 pub returns-then-count-eq0 : goal.returns-then-count-eq0
 returns-then-count-eq0 c =

@@ -2,7 +2,7 @@ use Rattle.std.proofs.Common.{ℕ, List, refl, subst}
 use Rattle.live_run.specs.Live.{run_of}
 use Rattle.live_run.specs.Course.{BeginsRun}
 use Rattle.live_run.specs.Journal.{KeptAll, kept_head}
-use Rattle.live_run.proofs.course.hear_live.Goals as goal
+use Rattle.live_run.proofs.course.feed_live.Goals as goal
 
 pub returns-in_ok-keep_head-in-Ok : goal.returns-in_ok-keep_head-in-Ok
 returns-in_ok-keep_head-in-Ok g c = (

@@ -3,7 +3,7 @@ use Rattle.live_run.specs.Journal.{entries_by}
 use Rattle.live_run.specs.Live.{after_line, run_of, said_of}
 use Rattle.live_run.specs.Journal.{kept_line}
 use Rattle.live_run.proofs.SaidLemmas.{ends_so, goes_on}
-use Rattle.live_run.proofs.course.hear_step.Goals as goal
+use Rattle.live_run.proofs.course.feed_step.Goals as goal
 
 -- the answer was given; or it wasn't
 pub returns-in-Ok : goal.returns-in-Ok

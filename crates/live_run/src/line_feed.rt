@@ -1,7 +1,7 @@
-//! The hearing of a live run: bytes, as they come, put together to lines.
+//! The feeding of a live run: bytes, as they come, put together to lines.
 ghost use Rattle.std.specs.Prelude.{◌≡◌, ◌∷◌, []};
 ghost use Rattle.live_run.specs.Course.{InHead, phase_of};
-ghost use Rattle.live_run.specs.Ear.{BegunTo, EndTo, LastTo, PieceTo};
+ghost use Rattle.live_run.specs.Feed.{BegunTo, EndTo, LastTo, PieceTo};
 
 use crate::base::unopened;
 use crate::course::Course;
@@ -16,20 +16,20 @@ use std::thread::Threads;
 
 /// A live run that is handed its input piece by piece. Contracts see where it stands between two bytes.
 #[derive(Drop)]
-pub struct Ear {
+pub struct LineFeed {
     /// Where it stands between two lines.
     pub(crate) course: Course,
     /// What has come of the next line, without a newline.
     pub(crate) line: Vec<u8>,
 }
 
-impl Ear {
+impl LineFeed {
     /// Returns a run before its first byte.
-    pub fn new(alloc: Global) -> Ear
+    pub fn new(alloc: Global) -> LineFeed
         ensures line { result.line.items ≡ [] }
         ensures course { phase_of result.course ≡ InHead [] 0 }
     {
-        Ear {
+        LineFeed {
             course: Course::Head(Vec::new(alloc), 0),
             line: Vec::new(alloc),
         }
@@ -45,7 +45,7 @@ impl Ear {
     /// # Cost
     ///
     /// That of the lines' steps.
-    pub fn hear_piece<O: Out, J: Journal>(
+    pub fn feed_piece<O: Out, J: Journal>(
         self,
         rt: &(impl Threads + Sync),
         alloc: Global,
@@ -54,33 +54,33 @@ impl Ear {
         out: &mut O,
         journal: &mut J,
         piece: &[u8],
-    ) -> Result<Ear, LiveEnd>
+    ) -> Result<LineFeed, LiveEnd>
         ensures { PieceTo showing O.written O.failures J.kept J.losses (out.old, journal.old) (out.new, journal.new) self piece.now result }
     {
-        let mut ear = self;
+        let mut line_feed = self;
         for byte in piece {
-            match ear.hear_byte(rt, alloc, bands, showing, out, journal, *byte) {
-                Ok(next) => ear = next,
+            match line_feed.feed_byte(rt, alloc, bands, showing, out, journal, *byte) {
+                Ok(next) => line_feed = next,
                 Err(end) => return Err(end),
             }
         }
-        Ok(ear)
+        Ok(line_feed)
     }
 
-    /// Returns the run after the whole lines that it has heard, from its journal: what has come of the next is dropped.
-    pub(crate) fn begun(self, alloc: Global) -> Result<Ear, LiveEnd>
+    /// Returns the run after the whole lines that it was fed, from its journal: what has come of the next is dropped.
+    pub(crate) fn begun(self, alloc: Global) -> Result<LineFeed, LiveEnd>
         ensures { BegunTo self result }
     {
-        let Ear { course, .. } = self;
+        let LineFeed { course, .. } = self;
         match course {
             Course::Head(text, count) => {
                 if count == 0 {
-                    return Ok(Ear::new(alloc));
+                    return Ok(LineFeed::new(alloc));
                 }
                 let number = count.checked_add(1).ok_or(NoMemory)?;
                 Err(unopened(alloc, text, number))
             }
-            Course::Steps(live) => Ok(Ear {
+            Course::Steps(live) => Ok(LineFeed {
                 course: Course::Steps(live),
                 line: Vec::new(alloc),
             }),
@@ -88,7 +88,7 @@ impl Ear {
     }
 
     /// Returns the run after a byte.
-    fn hear_byte<O: Out, J: Journal>(
+    fn feed_byte<O: Out, J: Journal>(
         self,
         rt: &(impl Threads + Sync),
         alloc: Global,
@@ -97,20 +97,20 @@ impl Ear {
         out: &mut O,
         journal: &mut J,
         byte: u8,
-    ) -> Result<Ear, LiveEnd>
+    ) -> Result<LineFeed, LiveEnd>
         ensures { PieceTo showing O.written O.failures J.kept J.losses (out.old, journal.old) (out.new, journal.new) self
             (byte ∷ []) result }
     {
-        let Ear { course, line } = self;
+        let LineFeed { course, line } = self;
         let mut line = line;
         line.push(byte).map_err(|_| NoMemory)?;
         if byte != b'\n' {
-            return Ok(Ear { course, line });
+            return Ok(LineFeed { course, line });
         }
-        match course.hear(rt, alloc, bands, showing, out, journal, line.as_slice()) {
+        match course.feed(rt, alloc, bands, showing, out, journal, line.as_slice()) {
             Ok(course) => {
                 line.clear();
-                Ok(Ear { course, line })
+                Ok(LineFeed { course, line })
             }
             Err(end) => Err(end),
         }
@@ -128,14 +128,14 @@ impl Ear {
     ) -> LiveEnd
         ensures { EndTo showing O.written O.failures J.kept J.losses (out.old, journal.old) (out.new, journal.new) self result }
     {
-        match self.hear_last(rt, alloc, bands, showing, out, journal) {
+        match self.feed_last(rt, alloc, bands, showing, out, journal) {
             Ok(course) => course.close(alloc, out),
             Err(end) => end,
         }
     }
 
     /// Returns the course after the last line, which may have no newline.
-    fn hear_last<O: Out, J: Journal>(
+    fn feed_last<O: Out, J: Journal>(
         self,
         rt: &(impl Threads + Sync),
         alloc: Global,
@@ -149,7 +149,7 @@ impl Ear {
         if self.line.is_empty() {
             return Ok(self.course);
         }
-        self.course.hear(
+        self.course.feed(
             rt,
             alloc,
             bands,
