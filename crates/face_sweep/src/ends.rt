@@ -1,6 +1,5 @@
 //! Where edges begin and where they end, in the order of the sweep.
 ghost use Rattle.std.specs.Prelude.{◌≡◌, ◌<◌, ◌≤◌, ◌^◌, false, All, IfOk, IsTrue, int_le};
-ghost use Rattle.std.specs.List.Sorted.{IsPermutation, IsSorted};
 ghost use Rattle.lay_point.specs.Edges.{is_before};
 ghost use Rattle.face_rows.specs.Laws.{AreLesserFirst};
 ghost use Rattle.face_sweep.specs.Ends.{
@@ -14,7 +13,6 @@ ghost use Rattle.face_sweep.specs.Ends.{
   IsNoLater,
   IsSooner,
   above_least,
-  begin_cmp,
   begin_number,
   begin_of,
   edge_begins,
@@ -22,14 +20,13 @@ ghost use Rattle.face_sweep.specs.Ends.{
   from_least,
   is_level,
   level_part,
-  place_cmp,
   sweep_place,
   swept_point,
 };
 
 use face_rows::upward;
 use lay_point::{Edge, Point};
-use snap_pixels::sort_in_threads;
+use snap_pixels::sorted_in_threads;
 use std::alloc::{AllocError, Global};
 use std::thread::{self, Threads};
 
@@ -195,17 +192,7 @@ fn begins_in_order(
     ensures lesser { IfOk result (λ begins. AreLesserFirst edges.now) }
 {
     let begins = begins_of(alloc, edges)?;
-    Ok(sorted_begins(rt, begins))
-}
-
-/// Returns the same in the order of the sweep.
-fn sorted_begins(rt: &(impl Threads + Sync), begins: Vec<Begin>) -> Vec<Begin>
-    ensures permutation { IsPermutation begins.items result.items }
-    ensures sorted { IsSorted begin_cmp result.items }
-{
-    let mut begins = begins;
-    sort_in_threads(rt, begins.as_mut_slice());
-    begins
+    Ok(sorted_in_threads(rt, begins))
 }
 
 /// Returns where the edges end, in the order of the sweep.
@@ -217,17 +204,7 @@ fn tops_in_order(
     ensures { IfOk result (λ tops. AreTops edges.now tops.items) }
 {
     let tops = tops_of(alloc, edges)?;
-    Ok(sorted_tops(rt, tops))
-}
-
-/// Returns the same in the order of the sweep.
-fn sorted_tops(rt: &(impl Threads + Sync), tops: Vec<Place>) -> Vec<Place>
-    ensures permutation { IsPermutation tops.items result.items }
-    ensures sorted { IsSorted place_cmp result.items }
-{
-    let mut tops = tops;
-    sort_in_threads(rt, tops.as_mut_slice());
-    tops
+    Ok(sorted_in_threads(rt, tops))
 }
 
 /// Returns where the edges begin.

@@ -1,6 +1,6 @@
 //! The edges that passes go, and the owners of each, read of sorted passes.
 ghost use Rattle.std.specs.Prelude.{◌≡◌, ◌↔◌, ◌<◌, Contains, IfOk, IsTrue, OnOk, length, map};
-ghost use Rattle.std.specs.List.Sorted.{IsPermutation, IsSorted};
+ghost use Rattle.std.specs.List.Sorted.{IsSorted};
 ghost use Rattle.lay_point.specs.Points.{IsBefore};
 ghost use Rattle.lay_point.specs.Rising.{IsRising};
 ghost use Rattle.snap_chains.specs.declared.pass.Pass.{Pass};
@@ -11,7 +11,7 @@ use crate::owner::Owner;
 use crate::owner_lists::{OwnerLists, Part};
 use crate::pass::{Pass, is_same_edge};
 use lay_point::{Edge, Point};
-use snap_pixels::sort_in_threads;
+use snap_pixels::sorted_in_threads;
 use std::alloc::{AllocError, Global};
 use std::thread::Threads;
 
@@ -35,19 +35,9 @@ pub(crate) fn read(
     requires inside { (p : Pass) → Contains passes.items p → HasCentres centres.now p }
     ensures { IfOk result (λ r. IsView (map (visit_at centres.now) passes.items) r.0.items r.1) }
 {
-    let sorted = in_order(rt, passes);
+    let sorted = sorted_in_threads(rt, passes);
     let found = read_sorted(alloc, sorted.as_slice(), centres)?;
     Ok(found)
-}
-
-/// Returns the passes in order.
-fn in_order(rt: &(impl Threads + Sync), passes: Vec<Pass>) -> Vec<Pass>
-    ensures permutation { IsPermutation passes.items result.items }
-    ensures sorted { IsSorted pass_cmp result.items }
-{
-    let mut passes = passes;
-    sort_in_threads(rt, passes.as_mut_slice());
-    passes
 }
 
 /// Returns the edges of sorted passes, and the owners of each.

@@ -86,4 +86,4 @@ pub use hot_set::{HotSet, turned, turned_all};
 pub use meeting::meets;
 pub use search::{hot, hot_plain};
 pub use segment::Segment;
-pub use sorting::sort_in_threads;
+pub use sorting::{sort_in_threads, sorted_in_threads};

@@ -8,6 +8,16 @@ use std::thread::Threads;
 /// Fewer elements than this are sorted sooner than the processors are counted.
 const LEAST: usize = 4096;
 
+/// Returns the elements in order: sorted by [`sort_in_threads`].
+pub fn sorted_in_threads<T: Ord + Send>(rt: &(impl Threads + Sync), elements: Vec<T>) -> Vec<T>
+    ensures permutation { IsPermutation elements.items result.items }
+    ensures sorted { IsSorted T.cmp result.items }
+{
+    let mut elements = elements;
+    sort_in_threads(rt, elements.as_mut_slice());
+    elements
+}
+
 /// Sorts the elements, if there are many in as many threads as there are processors. Equal ones may change places.
 ///
 /// # Cost
