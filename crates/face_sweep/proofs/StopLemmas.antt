@@ -41,17 +41,17 @@ use Rattle.face_rows.proofs.RowLemmas.{is_left, left_of, spans_of}
 use Rattle.face_rows.proofs.UpwardLemmas.{up_rises}
 use Rattle.face_sweep.proofs.OrderLemmas.{crosses}
 use Rattle.face_sweep.specs.Points.{HasHigh, HasLow, IsAfter, IsEndPoint, IsLevelFrom}
+use Rattle.snap_pixels.specs.Coordinates.{coordinate_from, from_least}
 use Rattle.face_sweep.specs.Stops.{AreRisers, AreStops, BeginAt, IsExtended, IsFirstLevel}
 use Rattle.face_sweep.specs.Stops.{IsBegunGroup}
 use Rattle.face_sweep.specs.Stops.{IsHead, IsHeadUpTo, IsNextPlace, IsPlaceRun}
 use Rattle.face_sweep.specs.Stops.{IsWithRisers}
 use Rattle.face_sweep.specs.Ends.{AreBegins, AreSortedEnds, AreReordered, AreMadeEnds, ArePlacesInOrder, AreTops, HasLowPlace, HasTopPlace}
-use Rattle.face_sweep.specs.Ends.{IsBeginOf, IsNoLater, IsSooner, IsTopOf, above_least, begin_cmp, begin_number, begin_numbers, begin_of}
+use Rattle.face_sweep.specs.Ends.{IsBeginOf, IsNoLater, IsSooner, IsTopOf, begin_cmp, begin_number, begin_numbers, begin_of}
 use Rattle.face_sweep.specs.Ends.{
   begin_places,
   edge_begins,
   edge_tops,
-  from_least,
   is_level,
   level_part,
   place_cmp,
@@ -69,26 +69,26 @@ all_has : {A : Type 0} (P : A → Type 0) (xs : List A) → ((x : A) → Has xs 
 all_has P xs f k d less = f (get_or xs k d) (has_get xs k d less)
 
 -- ---- places and points
-offset_shifted : (n : ℕ) → from_least (above_least n) ≡ n
+offset_shifted : (n : ℕ) → from_least (coordinate_from n) ≡ n
 offset_shifted n = grind (arith, ints)
 
 pub place_back : (q : Place) → sweep_place (swept_point q) ≡ q
 place_back q =
     let y = offset_shifted (q.key / 4294967296) in
     let x = offset_shifted (4294967295 - q.key % 4294967296) in
-    let key : from_least (above_least (q.key / 4294967296)) * 4294967296
-    + (4294967295 - from_least (above_least (4294967295 - q.key % 4294967296)))
+    let key : from_least (coordinate_from (q.key / 4294967296)) * 4294967296
+    + (4294967295 - from_least (coordinate_from (4294967295 - q.key % 4294967296)))
     ≡ q.key = (λ i. y i * 4294967296 + (4294967295 - x i)) ∙ omega arith in
     λ i. record { key = key i }
 
-shifted_less : (m n : ℕ) → m < n → above_least m <ℤ above_least n
+shifted_less : (m n : ℕ) → m < n → coordinate_from m <ℤ coordinate_from n
 shifted_less m n less = omega (arith, linear)
 
 pub sooner_after : (a b : Place) → IsSooner a b → IsAfter (swept_point a) (swept_point b)
 sooner_after a b less = ⊎_elim
     (λ (h : (a.key / 4294967296 ≡ b.key / 4294967296) × (a.key % 4294967296 < b.key % 4294967296)).
     let lt = h.1 in
-    inl (ap above_least h.0, shifted_less (4294967295 - b.key % 4294967296) (4294967295 - a.key % 4294967296) (omega (arith, lt))))
+    inl (ap coordinate_from h.0, shifted_less (4294967295 - b.key % 4294967296) (4294967295 - a.key % 4294967296) (omega (arith, lt))))
     (λ (lt : a.key / 4294967296 < b.key / 4294967296).
     inr (shifted_less (a.key / 4294967296) (b.key / 4294967296) lt))
     (parts_of_less a.key b.key less)

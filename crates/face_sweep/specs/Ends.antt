@@ -1,11 +1,12 @@
 -- Where edges begin and where they end, as numbers in the order of the sweep.
-use Rattle.std.specs.Prelude.{◌≡◌, ◌≢◌, ◌⊎◌, ℕ, ◌+◌, ◌-◌, ◌*◌, ◌/◌, ◌%◌, ◌<◌, ◌≤◌, ℤ, pos, ◌+ℤ◌, ◌-ℤ◌, int_le, nat_abs, nat_le}
+use Rattle.std.specs.Prelude.{◌≡◌, ◌≢◌, ◌⊎◌, ℕ, ◌+◌, ◌-◌, ◌*◌, ◌/◌, ◌%◌, ◌<◌, ◌≤◌, int_le, nat_le}
 use Rattle.std.specs.Prelude.{Bool, true, cond, List, All, Contains, length, map, slice_index_or}
 use Rattle.std.specs.List.{AllPairs}
 use Rattle.std.specs.List.Sorted.{IsPermutation, IsSorted}
 use Rattle.std.specs.Ordering.{nat_cmp, on, then_cmp}
 use Rattle.std.specs.declared.cmp.Ordering.{Ordering}
 use Rattle.lay_point.specs.declared.point.Point.{Point}
+use Rattle.snap_pixels.specs.Coordinates.{coordinate_from, from_least}
 use Rattle.face_rows.specs.Lines.{nowhere}
 use Rattle.face_rows.specs.Picked.{picked}
 use Rattle.face_rows.specs.Rows.{upward}
@@ -14,18 +15,11 @@ use Rattle.face_sweep.specs.declared.ends.Ends.{Ends}
 use Rattle.face_sweep.specs.declared.ends.Place.{Place}
 
 -- ---- places: points in the order of the sweep
--- how far a coordinate is from the least of all
-abbrev pub from_least : ℤ → ℕ
-from_least z = nat_abs (z +ℤ pos 2147483648)
-
-abbrev pub above_least : ℕ → ℤ
-above_least n = pos n -ℤ pos 2147483648
-
 abbrev pub sweep_place : Point → Place
 sweep_place p = record { key = from_least p.y * 4294967296 + (4294967295 - from_least p.x) }
 
 abbrev pub swept_point : Place → Point
-swept_point q = record { x = above_least (4294967295 - q.key % 4294967296); y = above_least (q.key / 4294967296) }
+swept_point q = record { x = coordinate_from (4294967295 - q.key % 4294967296); y = coordinate_from (q.key / 4294967296) }
 
 -- the sweep comes to a before b
 abbrev pub IsSooner : Place → Place → Type 0

@@ -12,12 +12,10 @@ ghost use Rattle.face_sweep.specs.Ends.{
   HasTopPlace,
   IsNoLater,
   IsSooner,
-  above_least,
   begin_number,
   begin_of,
   edge_begins,
   edge_tops,
-  from_least,
   is_level,
   level_part,
   sweep_place,
@@ -26,7 +24,7 @@ ghost use Rattle.face_sweep.specs.Ends.{
 
 use face_rows::upward;
 use lay_point::{Edge, Point};
-use snap_pixels::sorted_in_threads;
+use snap_pixels::{coordinate_from, from_least, sorted_in_threads};
 use std::alloc::{AllocError, Global};
 use std::thread::{self, Threads};
 
@@ -69,8 +67,8 @@ impl Place {
         ensures { result ≡ swept_point self }
     {
         Point {
-            x: above_least(4_294_967_295 - self.key % 4_294_967_296),
-            y: above_least(self.key / 4_294_967_296),
+            x: coordinate_from(4_294_967_295 - self.key % 4_294_967_296),
+            y: coordinate_from(self.key / 4_294_967_296),
         }
     }
 
@@ -81,22 +79,6 @@ impl Place {
     {
         self < other
     }
-}
-
-/// Returns how far the coordinate is from the least of all.
-fn from_least(at: i32) -> u64
-    ensures value { result ≡ from_least at }
-    ensures bound { result < 2 ^ 32 }
-{
-    (i64::from(at) + 2_147_483_648).unsigned_abs()
-}
-
-/// Returns the coordinate that is so far from the least of all.
-fn above_least(distance: u64) -> i32
-    requires { distance < 2 ^ 32 }
-    ensures { result ≡ above_least distance }
-{
-    (distance as i64 - 2_147_483_648) as i32
 }
 
 impl Begin {

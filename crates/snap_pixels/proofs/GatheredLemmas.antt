@@ -8,7 +8,8 @@ use Rattle.lay_point.specs.declared.point.Point.{Point}
 use Rattle.lay_point.specs.Points.{IsBefore}
 use Rattle.lay_point.proofs.Members.{Has, contains, has}
 use Rattle.lay_point.proofs.Signs.{linear}
-use Rattle.snap_pixels.specs.Gathered.{centre_of, coordinate_from}
+use Rattle.snap_pixels.specs.Coordinates.{coordinate_from}
+use Rattle.snap_pixels.specs.Gathered.{centre_of}
 use Rattle.snap_pixels.specs.Order.{ArePointsRising}
 
 -- ---- members

@@ -1,4 +1,5 @@
 pub mod Boxes
+pub mod Coordinates
 pub mod Gathered
 pub mod Hot
 pub mod Kinds

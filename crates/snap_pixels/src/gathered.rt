@@ -4,23 +4,20 @@ ghost use Rattle.std.specs.Prelude.{
   ◌↔◌,
   ◌⊎◌,
   ◌++◌,
-  ◌<◌,
-  ◌^◌,
-  ◌+ℤ◌,
   [],
   Contains,
   IfOk,
   OnOk,
   length,
   map,
-  pos,
   ℕ,
 };
 ghost use Rattle.std.specs.List.Sorted.{IsStrictlyIncreasing};
 ghost use Rattle.lay_point.specs.declared.point.Point.{Point};
-ghost use Rattle.snap_pixels.specs.Gathered.{centre_of, coordinate_from};
+ghost use Rattle.snap_pixels.specs.Gathered.{centre_of};
 ghost use Rattle.snap_pixels.specs.Order.{ArePointsRising};
 
+use crate::coordinates::{coordinate_from, from_least};
 use crate::sorting::sort_in_threads;
 use lay_point::Point;
 use std::alloc::{AllocError, Global};
@@ -181,7 +178,7 @@ fn unpacked_all(alloc: Global, keys: &[u64]) -> Result<Vec<Point>, AllocError>
 fn packed(centre: Point) -> u64
     ensures { centre_of result ≡ centre }
 {
-    above_least(centre.x) * 4_294_967_296 + above_least(centre.y)
+    from_least(centre.x) * 4_294_967_296 + from_least(centre.y)
 }
 
 /// Returns the centre of the key.
@@ -189,23 +186,7 @@ fn unpacked(key: u64) -> Point
     ensures { result ≡ centre_of key }
 {
     Point {
-        x: coordinate(key / 4_294_967_296),
-        y: coordinate(key % 4_294_967_296),
+        x: coordinate_from(key / 4_294_967_296),
+        y: coordinate_from(key % 4_294_967_296),
     }
-}
-
-/// Returns how far the coordinate is above the least one.
-fn above_least(at: i32) -> u64
-    ensures value { pos result ≡ at +ℤ pos 2147483648 }
-    ensures bound { result < 2 ^ 32 }
-{
-    (i64::from(at) + 2_147_483_648).unsigned_abs()
-}
-
-/// Returns the coordinate so far above the least one.
-fn coordinate(distance: u64) -> i32
-    requires { distance < 2 ^ 32 }
-    ensures { result ≡ coordinate_from distance }
-{
-    (distance as i64 - 2_147_483_648) as i32
 }

@@ -30,7 +30,7 @@
 //!
 //! - `search.rt`: the search; `parts.rt`, `division.rt`, `cell.rt`, `strips.rt`, `measure.rt`: segments divided
 //!   into parts, each pair that may meet in one of them (`specs/Parts.antt`, `specs/Strips.antt`).
-//! - `gathered.rt`, `hot_set.rt`: centres as they are found, and the set of them.
+//! - `gathered.rt`, `hot_set.rt`, `coordinates.rt`: centres as they are found, kept as numbers, and the set of them.
 //! - `kind.rt`, `counts.rt`, `repeats.rt`: parallel and equal segments, which needn't be asked.
 //! - `meeting.rt`, `side.rt`, `span.rt`, `common_point.rt`, `rounding.rt`: one segment and one
 //!   pixel, and two segments.
@@ -60,6 +60,7 @@
 mod boxes;
 mod cell;
 mod common_point;
+mod coordinates;
 mod counts;
 mod division;
 mod exact;
@@ -81,6 +82,7 @@ mod strips;
 mod tests;
 
 pub use common_point::crossing;
+pub use coordinates::{coordinate_from, from_least};
 pub use exact::{MAX_AREA, area};
 pub use hot_set::{HotSet, turned, turned_all};
 pub use meeting::meets;
