@@ -3,10 +3,10 @@ use Rattle.std.proofs.Common.{◌≡◌, ◌≢◌, ◌⊎◌, inl, inr, ⊎_eli
 use Rattle.std.proofs.Common.{List, [], ◌∷◌, ◌++◌}
 use Rattle.std.proofs.Common.{add-one, append_assoc, length, get_or, map, take, drop, Contains, ℤ, ◌<ℤ◌, ◌≤ℤ◌, refl, sym}
 use Rattle.std.proofs.Common.{ap, subst, ◌∙◌, arith}
-use Rattle.std.specs.Prelude.{All, int_le, nat_eq, nat_le, slice_range}
+use Rattle.std.specs.Prelude.{All, int_le, int_lt, nat_eq, nat_le, slice_range}
 use Rattle.std.specs.Cmp.{IsTotalOrder, nat_cmp_is}
 use Rattle.std.specs.List.{AllByRecursion, AllPairs, IsDistinct}
-use Rattle.std.specs.List.Sorted.{IsPermutation, IsSorted, IsSortedBy}
+use Rattle.std.specs.List.Sorted.{IsPartitionedBy, IsPermutation, IsSorted, IsSortedBy}
 use Rattle.std.specs.Ordering.{is_lt, nat_cmp, ordering_then}
 use Rattle.std.specs.declared.cmp.Ordering.TheVariants.{Equal, Less}
 use Rattle.std.proofs.lemmas.Bool.{cases_lt}
@@ -27,7 +27,7 @@ use Rattle.lay_point.specs.Rising.{IsRising}
 use Rattle.lay_point.proofs.Members.{Has, contains, has}
 use Rattle.lay_point.proofs.Rising.{IsStrictOrder}
 use Rattle.lay_point.proofs.Signs.{linear}
-use Rattle.lay_point.proofs.Tests.{le_false, le_true}
+use Rattle.lay_point.proofs.Tests.{le_false, le_true, lt_true, true_lt}
 use Rattle.lay_point.proofs.ListLaws.{before_by_number, get_or-slice_range, has_get}
 use Rattle.snap_chains.specs.Rounded.{AreClean, Owned}
 use Rattle.snap_chains.proofs.ListLemmas.{map-range}
@@ -831,20 +831,12 @@ module _ (list : List Stop) (rising : IsRising IsAfter (points_of list)) where
       upto (inl h) = omega (arith, linear, h.0)
       upto (inr h) = omega (arith, linear, h)
 
-  pub below_before : (row : ℤ) (m : ℕ) (e : Stop) → m < length list → (get_or list m e).point.y <ℤ row → (k : ℕ) (d : Stop) → k < m + 1
-      → (get_or list k d).point.y <ℤ row
-  below_before row m e inside below k d less =
-      let here : (get_or list m d).point.y <ℤ row = subst (λ (z : Stop). z.point.y <ℤ row) (get_or_default list m e d inside) below in
-      let up = rows_upward k m d (omega arith) inside in
-      omega (arith, linear, here, up)
-
-  pub above_behind : (row : ℤ) (m : ℕ) (e : Stop) → row ≤ℤ (get_or list m e).point.y → (k : ℕ) (d : Stop) → m ≤ k → k < length list
-      → row ≤ℤ (get_or list k d).point.y
-  above_behind row m e above k d le less =
-      let here : row ≤ℤ (get_or list m d).point.y =
-      subst (λ (z : Stop). row ≤ℤ z.point.y) (get_or_default list m e d (omega arith)) above in
-      let up = rows_upward m k d le less in
-      omega (arith, linear, here, up)
+  -- no stop that is below a row comes after one that isn't
+  pub below_parted : (row : ℤ) → IsPartitionedBy (λ s. int_lt s.point.y row) list
+  below_parted row i j d le less below =
+      let up = rows_upward i j d le less in
+      let there = lt_true (get_or list j d).point.y row below in
+      true_lt (get_or list i d).point.y row (omega (arith, linear, up, there))
 
 -- ---- what holds of each edge so far
 pub one_more_edge : (P : Point × Point → Type 0) (edges : List (Point × Point)) (n : ℕ) (e : Point × Point) → n < length edges

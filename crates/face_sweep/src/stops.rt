@@ -319,16 +319,7 @@ impl Stops {
         requires { IsRising IsAfter (stop_points self.now) }
         ensures { IsFirstFrom self.now row result }
     {
-        let stops = self.stops();
-        let (mut low, mut high) = (0, stops.len());
-        while low < high {
-            let middle = low + (high - low) / 2;
-            if stops[middle].is_below(row) {
-                low = middle + 1;
-            } else {
-                high = middle;
-            }
-        }
-        low
+        self.stops()
+            .partition_point(|stop: &Stop| stop.is_below(row))
     }
 }

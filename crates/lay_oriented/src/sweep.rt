@@ -144,15 +144,5 @@ fn add_slant(active: &mut Vec<Slant>, slant: Slant) -> Result<(), AllocError>
 fn place_of(slants: &[Slant], slant: Slant) -> usize
     ensures { result ≤ length slants.now }
 {
-    let mut low = 0;
-    let mut high = slants.len();
-    while low < high {
-        let middle = low + (high - low) / 2;
-        if slants[middle].is_right_of(slant) {
-            low = middle + 1;
-        } else {
-            high = middle;
-        }
-    }
-    low
+    slants.partition_point(|other: &Slant| other.is_right_of(slant))
 }
