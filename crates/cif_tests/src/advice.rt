@@ -164,3 +164,41 @@ fn a_line_of_a_job_is_shown_with_its_form(rt: HostRuntime) -> Result<(), Fail> {
     assert!(rt; tells(&too_long, "masklay: the job has more", "16,777,216"));
     Ok(())
 }
+
+// Could catch words about jobs, a section before `%live` that is passed over, and a place at another line.
+#[test]
+fn a_head_of_a_live_run_is_shown_with_the_form_of_one(rt: HostRuntime) -> Result<(), Fail> {
+    let rows: [(&[u8], u32, &str, &str); 4] = [
+        (
+            b"",
+            1,
+            "masklay: line 1, column 1: there is nothing to read",
+            "`masklay --live --journal FILE`",
+        ),
+        (
+            b"\n 1 open\n",
+            2,
+            "masklay: line 2, column 2: a live run begins with the line `%cif`\n   1 open\n   ^\n",
+            "A live run is",
+        ),
+        (
+            b"%cif",
+            2,
+            "masklay: line 1, column 5: the lines end, and none begins with `%live`\n  %cif\n      ^\n",
+            "A live run is",
+        ),
+        (
+            b"%cif\nE\n%session 1\nopen\n",
+            5,
+            "masklay: line 3, column 1: here comes `%live`\n  %session 1\n  ^\n",
+            "it has no sections",
+        ),
+    ];
+    for (head, line, begins, words) in rows {
+        let lines = of_live_fault(rt.alloc(), head, line)?;
+        assert!(rt; tells(&lines, begins, words), "{begins}");
+    }
+    let too_long = of_live_fault(rt.alloc(), b"%cif\n", 0)?;
+    assert!(rt; tells(&too_long, "masklay: there are more", "16,777,216"));
+    Ok(())
+}

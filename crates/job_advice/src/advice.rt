@@ -10,8 +10,9 @@ ghost use Rattle.job_advice.specs.Places.{
 
 use crate::cif_words::words_of;
 use crate::line::{line_of, text_start};
-use crate::line_advice::{told_of_line, told_of_live};
+use crate::line_advice::{told_of_head, told_of_line, told_of_live};
 use crate::place::{line_end, place_of};
+use crate::sections::first_section;
 use crate::window::window;
 use cif_read::CifFault;
 use lay_point::NoMemory;
@@ -21,6 +22,10 @@ use std::io::Write;
 /// What is said of a job that is too long.
 const TOO_LONG: &[u8] =
     b"masklay: the job has more than 16,777,216 bytes\n  Cut it into jobs, each of which begins with the text that the one before wrote.\n";
+
+/// What is said of a live run whose head is too long.
+const HEAD_TOO_LONG: &[u8] =
+    b"masklay: there are more than 16,777,216 bytes before a line that begins with `%live`\n  A live run is the line `%cif`, a CIF text, that line, and then lines as `1 open`. Cut the layout into parts where its text is so long.\n";
 
 /// What is said of a line: what is wrong, what to do, and how many bytes of the line there are from the place on.
 #[derive(Drop)]
@@ -89,6 +94,31 @@ pub fn of_job_fault(alloc: Global, job: &[u8], line: u32) -> Result<Vec<u8>, NoM
     let told = told_of_line(alloc, job, &job[..start], &job[start..end])?;
     let offset = end.saturating_sub(told.left);
     lines_of(alloc, job, offset, told.problem.as_slice(), told.cure)
+}
+
+/// What is reported to a person where no live run begins after this head: the lines before `%live`, or all lines where none begins
+/// so. `line` is that of the fault, counted from 1; a head that is too long has it on line 0. Where sections come before that line,
+/// which a live run doesn't have, the first of them is told of.
+///
+/// # Errors
+///
+/// `NoMemory`, if an allocation fails.
+///
+/// # Cost
+///
+/// A pass over the head.
+pub fn of_live_fault(alloc: Global, head: &[u8], line: u32) -> Result<Vec<u8>, NoMemory> {
+    if line == 0 {
+        let mut lines = Vec::new(alloc);
+        lines.extend_from_slice(HEAD_TOO_LONG)?;
+        return Ok(lines);
+    }
+    let line = first_section(head).unwrap_or(line).min(line);
+    let start = line_of(head, line);
+    let end = line_end(head, start);
+    let told = told_of_head(alloc, head, &head[..start], &head[start..end])?;
+    let offset = end.saturating_sub(told.left);
+    lines_of(alloc, head, offset, told.problem.as_slice(), told.cure)
 }
 
 /// What is reported to a person of a line of a live run, of this number after `%live`, that says nothing which a run takes:

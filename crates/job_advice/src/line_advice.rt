@@ -3,9 +3,9 @@
 use crate::advice::Told;
 use crate::cif_words::Words;
 use crate::job_words::form_of;
-use crate::no_job::words_of_input;
+use crate::no_job::{LIVE_FORM, words_of_head, words_of_input};
 use crate::problem::{Problem, Wrong, next_word, problem_of};
-use crate::sections::{MAX_SESSION, Section, first_miscount, section_after};
+use crate::sections::{MAX_SESSION, Section, first_miscount, is_section, section_after};
 use byte_io::{is_number, number_of};
 use lay_point::NoMemory;
 use std::alloc::Global;
@@ -27,12 +27,7 @@ pub(crate) fn told_of_line(
 ) -> Result<Told, NoMemory> {
     let (name, left, rest) = next_word(line);
     match (section_after(before), name) {
-        (Section::Head, b"%cif") => told(
-            alloc,
-            next_left(rest),
-            "`%cif` is alone on its line",
-            "The CIF text begins on the next line.",
-        ),
+        (Section::Head, b"%cif") => told_of_cif(alloc, rest),
         (Section::Head, _) => {
             let Words { problem, cure } = words_of_input(job);
             told(alloc, left, problem, cure)
@@ -42,6 +37,46 @@ pub(crate) fn told_of_line(
         (_, b"%order") => told_of_order(alloc, job, left, rest),
         _ => told_of_step(alloc, name, problem_of(line)),
     }
+}
+
+/// Returns what is said of a line of this head of a live run, which comes after these lines: the first that can't be there or,
+/// where each can, the last.
+pub(crate) fn told_of_head(
+    alloc: Global,
+    head: &[u8],
+    before: &[u8],
+    line: &[u8],
+) -> Result<Told, NoMemory> {
+    let (name, left, rest) = next_word(line);
+    match (section_after(before), name) {
+        (Section::Head, b"%cif") if next_left(rest) > 0 => told_of_cif(alloc, rest),
+        (Section::Head, name) if name != b"%cif".as_slice() => {
+            let Words { problem, cure } = words_of_head(head);
+            told(alloc, left, problem, cure)
+        }
+        (Section::Text, _) if is_section(line) => told(
+            alloc,
+            left,
+            "here comes `%live`",
+            LIVE_FORM,
+        ),
+        _ => told(
+            alloc,
+            0,
+            "the lines end, and none begins with `%live`",
+            LIVE_FORM,
+        ),
+    }
+}
+
+/// Returns what is said of the line `%cif`, with these words after that.
+fn told_of_cif(alloc: Global, rest: &[u8]) -> Result<Told, NoMemory> {
+    told(
+        alloc,
+        next_left(rest),
+        "`%cif` is alone on its line",
+        "The CIF text begins on the next line.",
+    )
 }
 
 /// Returns what is said of a line of a live run.

@@ -54,6 +54,25 @@ fn next_section(section: Section, line: &[u8]) -> Section {
     }
 }
 
+/// Returns the number of the line with which the job's first section begins, counted from 1, `None` where it has none.
+pub(crate) fn first_section(job: &[u8]) -> Option<u32> {
+    let mut section = Section::Head;
+    let mut number: u32 = 0;
+    for line in job.split(|byte| *byte == b'\n') {
+        number = number.saturating_add(1);
+        if section == Section::Text && is_section(line) {
+            return Some(number);
+        }
+        section = next_section(section, line);
+    }
+    None
+}
+
+/// Returns whether the line ends the CIF text of a job, whatever follows in its first word.
+pub(crate) fn is_section(line: &[u8]) -> bool {
+    line.starts_with(b"%order") || line.starts_with(b"%session")
+}
+
 /// A session that isn't in the order once for each of its steps.
 #[derive(Clone, Copy, Debug)]
 pub(crate) struct Miscount {

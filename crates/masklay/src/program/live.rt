@@ -10,7 +10,7 @@ use crate::program::outcome::JobError;
 use crate::program::output::write_stop;
 use crate::program::put_memory;
 use crate::program::status::Status;
-use crate::program::telling::{report_error, tell_of_journal, tell_of_notes};
+use crate::program::telling::{report_error, tell_of_head, tell_of_journal, tell_of_notes};
 use band_workers::{OneBand, ScopedBands, Workers};
 use byte_io::{In, Out};
 use live_run::{Journal, LiveEnd, Showing, run_journaled};
@@ -104,16 +104,7 @@ fn tell_of_end<E: Out>(alloc: Global, end: &LiveEnd, status: Status, errors: &mu
     ensures { MayReport E.written E.failures errors.old errors.new status }
 {
     match end {
-        LiveEnd::Job { line, text } => {
-            report_error(
-                alloc,
-                false,
-                text,
-                JobError::JobFault(*line),
-                status,
-                errors,
-            );
-        }
+        LiveEnd::Job { line, text } => tell_of_head(alloc, text, *line, status, errors),
         LiveEnd::Cif { fault, text } => {
             report_error(
                 alloc,

@@ -9,7 +9,7 @@ use crate::program::oriented::{JobOutput, put_staying};
 use crate::program::outcome::JobError;
 use crate::program::status::Status;
 use byte_io::{Out, put_all};
-use job_advice::{of_cif_fault, of_job_fault, of_refusals, of_text_fault};
+use job_advice::{of_cif_fault, of_job_fault, of_live_fault, of_refusals, of_text_fault};
 use lay_point::NoMemory;
 use live_run::EndNotes;
 use std::alloc::Global;
@@ -62,6 +62,24 @@ pub(super) fn report_error<E: Out>(
         JobError::NoMemory => Err(NoMemory),
     };
     if let Ok(lines) = advice {
+        tell(&lines, status, errors);
+    }
+}
+
+/// Tells why no live run begins after this head, which is refused at that line.
+pub(super) fn tell_of_head<E: Out>(
+    alloc: Global,
+    head: &[u8],
+    line: u32,
+    status: Status,
+    errors: &mut E,
+)
+    ensures { MayReport E.written E.failures errors.old errors.new status }
+{
+    if status == Status::Device {
+        return tell(NOT_WRITTEN, status, errors);
+    }
+    if let Ok(lines) = of_live_fault(alloc, head, line) {
         tell(&lines, status, errors);
     }
 }
