@@ -43,7 +43,7 @@
 //! # Files
 //!
 //! - `stops.rt`: the points of the sweep; `ends.rt`: the ends of edges in its order.
-//! - `place.rt`, `search.rt`, `side.rt`: where a point is among the edges of the list.
+//! - `place.rt`, `side.rt`: where a point is among the edges of the list.
 //! - `passing.rt`: how the list passes a point; `laws.rt`: why it is then that of the next.
 //! - `sides.rt`, `counts.rt`, `known.rt`: what holds beside an edge.
 //! - `reach.rt`, `boxes.rt`, `extent.rt`, `traced.rt`, `turns.rt`, `own_rows.rt`: whether one shape holds beside an edge.
@@ -59,7 +59,6 @@ mod own_rows;
 mod passing;
 mod place;
 mod reach;
-mod search;
 mod side;
 mod sides;
 mod stops;

@@ -19,11 +19,11 @@ ghost use Rattle.face_sweep.specs.Reaches.{IsReach, key_of, keys_of};
 
 use crate::place::is_left_at;
 use crate::reach::Reach;
-use crate::search::partition_from;
 use crate::traced::index_of;
 use crate::turns::Turn;
 use lay_point::Point;
 use snap_chains::{CleanEdges, Owner};
+use snap_pixels::partition_from;
 use std::alloc::{AllocError, Global};
 
 /// For each shape that is traced the numbers of its edges in the row, from right to left. An odd number of them

@@ -2,10 +2,10 @@
 ghost use Rattle.std.specs.Prelude.{◌≡◌, ◌<◌, All, int_lt, length, pos, slice_index};
 ghost use Rattle.face_sweep.specs.Points.{IsPlaceAmong, distance_from};
 
-use crate::search::partition_from;
 use crate::side::is_left_of;
 use lay_point::Point;
 use snap_chains::CleanEdges;
+use snap_pixels::partition_from;
 
 /// Returns where those of the edges begin that aren't left of the point, if the others stand before them. The
 /// search begins at the hint.

@@ -35,7 +35,7 @@
 //! - `meeting.rt`, `side.rt`, `span.rt`, `common_point.rt`, `rounding.rt`: one segment and one
 //!   pixel, and two segments.
 //! - `exact.rt`, `boxes.rt`: arithmetic for all coordinates, and a quick test of boxes.
-//! - `sorting.rt`: sorts in threads.
+//! - `sorting.rt`: sorts in threads; `partition.rt`: a search by halving that begins at a hint, for any indices.
 //!
 //! # Example
 //!
@@ -69,6 +69,7 @@ mod hot_set;
 mod kind;
 mod measure;
 mod meeting;
+mod partition;
 mod parts;
 mod repeats;
 mod rounding;
@@ -86,6 +87,7 @@ pub use coordinates::{coordinate_from, from_least};
 pub use exact::{MAX_AREA, area};
 pub use hot_set::{HotSet, turned, turned_all};
 pub use meeting::meets;
+pub use partition::partition_from;
 pub use search::{hot, hot_plain};
 pub use segment::Segment;
 pub use sorting::{sort_in_threads, sorted_in_threads};

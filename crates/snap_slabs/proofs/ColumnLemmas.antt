@@ -1,12 +1,12 @@
 -- Centres in order: no centre before the low corner of a segment's box is met, and none behind its high corner.
 use Rattle.std.proofs.Common.{◌≡◌, ◌↔◌, ⊎_elim, ℕ, zero, suc, ◌+◌, ◌-◌, ◌<◌, ◌≤◌, ◌⊎◌, inl, inr, List, length, get_or, drop}
-use Rattle.std.proofs.Common.{ℤ, ◌≤ℤ◌, ◌<ℤ◌, sym, ap, ◌∙◌, subst, arith, Bool, true, false, Contains, Decides}
+use Rattle.std.proofs.Common.{refl, ℤ, ◌≤ℤ◌, ◌<ℤ◌, sym, ap, ◌∙◌, subst, arith, Bool, true, false, Contains, Decides}
 use Rattle.std.specs.Prelude.{int_lt, not, slice_range}
 use Rattle.std.specs.List.Sorted.{IsPartitionedBy, IsPartitionPoint}
 use Rattle.std.proofs.lemmas.Bool.{cases_lt, false≢true}
 use Rattle.std.proofs.lemmas.Bool.Decides.{Decides-and, Decides-int_eq, Decides-not, Decides-or}
 use Rattle.std.proofs.lemmas.Int.{clamps, ints}
-use Rattle.std.proofs.lemmas.List.{get_or-drop, get_or-take, length-drop, length-take}
+use Rattle.std.proofs.lemmas.List.{get_or-drop, get_or-take, get_or_default, length-drop, length-take}
 use Rattle.lay_point.specs.declared.point.Point.{Point}
 use Rattle.lay_point.specs.declared.rect.Rect.{Rect}
 use Rattle.lay_point.specs.Rects.{grown}
@@ -66,6 +66,28 @@ right_part high cs up i j d le lt t =
     (λ same. subst (IsBefore high) same later)
     (λ before. before_is_strict.transitive high (get_or cs i d) (get_or cs j d) later before)
     (centres_rise cs up i j d le lt)))
+
+-- ---- a test that goes on as two neighbours tell
+module _ (test : Point → Bool) (cs : List Point) (parted : IsPartitionedBy test cs) (o : Point) where
+  passed_before : (n : ℕ) → n ≤ length cs → ((k : ℕ) → suc k ≡ n → test (get_or cs k o) ≡ true)
+      → (i : ℕ) (d : Point) → i < n → test (get_or cs i d) ≡ true
+  passed_before zero bound before i d less = absurd (omega (arith, less))
+  passed_before (suc k) bound before i d less = parted i k d (omega (arith, less)) (omega (arith, bound))
+      (ap test (get_or_default cs k d o (omega (arith, bound))) ∙ before k refl)
+
+  still_false : (later here : Bool) → (later ≡ true → here ≡ true) → here ≡ false → later ≡ false
+  still_false true here back e = absurd (false≢true (sym e ∙ back refl))
+  still_false false here back e = refl
+
+  pub parts_by_neighbours : (n : ℕ) → n ≤ length cs → ((k : ℕ) → suc k ≡ n → test (get_or cs k o) ≡ true)
+      → (n < length cs → test (get_or cs n o) ≡ false) → IsPartitionPoint (λ c. test c ≡ true) (λ c. test c ≡ false) cs n
+  parts_by_neighbours n bound before behind = (
+    (λ i d from less. passed_before n bound before i d less),
+    (λ i d le lt.
+        let inside : n < length cs = omega (arith, le, lt) in
+        still_false (test (get_or cs i d)) (test (get_or cs n d)) (parted n i d le lt)
+        (ap test (get_or_default cs n d o inside) ∙ behind inside)),
+  )
 
 -- the corners of a box round a and b
 pub record AreCorners (low high a b : Point) : Type 0 where

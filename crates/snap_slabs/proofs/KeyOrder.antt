@@ -8,7 +8,7 @@ use Rattle.std.specs.Ordering.{int_cmp, nat_cmp, int_eq, on, then_cmp, ordering_
 use Rattle.std.specs.Cmp.{IsTotalOrder}
 use Rattle.std.specs.List.Retain.{IsFiltered, DiffersFromLast}
 use Rattle.std.specs.List.Sorted.{IsPermutation, IsSorted}
-use Rattle.std.specs.Prelude.{◌==◌, ◌&&◌, Bool}
+use Rattle.std.specs.Prelude.{◌==◌, ◌&&◌, Bool, true, false}
 use Rattle.std.proofs.lemmas.Bool.{cases_lt}
 use Rattle.std.proofs.lemmas.Bool.Decides.{Decides-and, Decides-eqb, Decides-int_eq, Decides-like}
 use Rattle.std.proofs.lemmas.Cmp.{int_ranked, int_cmp_total, nat_cmp_total, on_total, then_total, ranked}
@@ -16,7 +16,7 @@ use Rattle.std.proofs.lemmas.List.{get_or_default}
 use Rattle.std.proofs.lemmas.Simd.{map-map}
 use Rattle.std.proofs.Common.{Result, Ok, Err, Some}
 use Rattle.std.specs.Prelude.{slice_get}
-use Rattle.std.specs.List.Sorted.{IsBinarySearchResult, IsSearchInRange}
+use Rattle.std.specs.List.Sorted.{IsBinarySearchResult, IsPartitionPoint, IsSearchInRange}
 use Rattle.std.proofs.lemmas.Bool.{false≢true}
 use Rattle.std.proofs.lemmas.Option.{slice_get-get_or}
 use Rattle.lay_point.specs.Same.{point_eq-Decides}
@@ -33,6 +33,8 @@ use Rattle.lay_point.proofs.ListLaws.{before_by_number, has-map, map-has}
 use Rattle.snap_slabs.proofs.Sorted.{IsOrder, sorted_once}
 use Rattle.snap_slabs.specs.declared.rows.RowKey.{RowKey}
 use Rattle.snap_slabs.specs.contracts.rows.RowKeyOrd.TheImpl.Laws.{matches_eq-law}
+use Rattle.snap_slabs.specs.Columns.{is_lesser_point}
+use Rattle.snap_slabs.proofs.ColumnLemmas.{Decides-is_lesser_point}
 use Rattle.snap_slabs.specs.Runs.{IsRowBefore, centre_at, centres_at, no_centre, number_of, row_key}
 
 abbrev IsKeyBefore : RowKey → RowKey → Type 0
@@ -189,3 +191,24 @@ pub found_at : (ps : List Point) (x : Point) (i : ℕ) → i < length ps → IsB
     → slice_get ps i ≡ Some x
 found_at ps x i lt at =
     slice_get-get_or ps i x lt ∙ ap Some ((point_eq-Decides (get_or ps i x) x).0 (point_ties (get_or ps i x) x ∙ ap is_eq (at x)))
+
+-- where the centres before a point of the list end, there it is
+pub found_behind : (cs : List Point) → IsRising IsBefore cs → (c : Point) (n : ℕ) → Contains cs c
+    → IsPartitionPoint (λ v. is_lesser_point v c ≡ true) (λ v. is_lesser_point v c ≡ false) cs n → slice_get cs n ≡ Some c
+found_behind cs up c n (k, lt, at) parts = slice_get-get_or cs n c (omega (arith, lt, same)) ∙ ap (λ m. Some (get_or cs m c)) same ∙ ap Some at
+  where
+    lesser : (v : Point) → is_lesser_point v c ≡ true → IsBefore v c
+    lesser v t = (Decides-is_lesser_point v c).0 t
+
+    early : k < n → ⊥
+    early less = before_is_strict.irreflexive c (subst (λ v. IsBefore v c) at (lesser (get_or cs k c) (parts.0 k c (omega arith) less)))
+
+    late : n < k → ⊥
+    late less = false≢true (sym (parts.1 n c (omega arith) (omega (arith, less, lt)))
+        ∙ (Decides-is_lesser_point (get_or cs n c) c).1 (subst (IsBefore (get_or cs n c)) at
+        (before_by_number IsBefore before_is_strict cs n k c up less lt)))
+
+    same : n ≡ k
+    same = ⊎_elim (λ (less : n < k). absurd (late less))
+        (λ (ge : k ≤ n). ⊎_elim (λ (less : k < n). absurd (early less)) (λ (le : n ≤ k). omega (arith, ge, le)) (cases_lt k n))
+        (cases_lt n k)

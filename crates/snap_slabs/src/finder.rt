@@ -6,7 +6,7 @@ ghost use Rattle.snap_pixels.specs.Segments.{Meets};
 ghost use Rattle.snap_slabs.specs.Slabs.{HoldPlaces, points_in};
 
 use crate::candidates::met;
-use crate::columns_of::places;
+use crate::columns_of::places_near;
 use crate::slab::Slab;
 use crate::slabs::{met_in_each, slabs_of};
 use lay_point::Point;
@@ -75,6 +75,9 @@ impl<'h> Finder<'h> {
     /// Returns the hot centres whose pixels the segment meets. Asked are those in its columns where they are
     /// few or there are no slabs, else those in its rows of the slabs that it goes through.
     ///
+    /// `near` are indices of centres near the segment's ends, the lesser first, where the search begins; any will
+    /// do.
+    ///
     /// # Errors
     ///
     /// `AllocError`, if an allocation fails.
@@ -82,12 +85,17 @@ impl<'h> Finder<'h> {
     /// # Cost
     ///
     /// Each centre is asked that is in the rows which the segment reaches in a slab, or in the segment's
-    /// columns.
-    pub fn met(&self, alloc: Global, segment: &Segment) -> Result<Vec<Point>, AllocError>
+    /// columns. The columns are found in a few steps where `near` are near, and in a search by halving elsewhere.
+    pub fn met(
+        &self,
+        alloc: Global,
+        segment: &Segment,
+        near: (usize, usize),
+    ) -> Result<Vec<Point>, AllocError>
         ensures { IfOk result (λ points. (c : Point) → Contains points.items c
             ↔ (Contains self.now c × Meets segment.now.a segment.now.b c)) }
     {
-        let (from, to) = places(segment, self.hot.centres());
+        let (from, to) = places_near(segment, self.hot.centres(), near);
         if let Some(slabs) = self.slabs_between(from, to) {
             let in_slabs = met_in_each(alloc, &segment.turned(), slabs)?;
             let points = turned_all(alloc, in_slabs.as_slice())?;

@@ -6,9 +6,10 @@ ghost use Rattle.lay_point.specs.Rising.{IsRising};
 ghost use Rattle.snap_pixels.specs.declared.segment.Segment.{Segment};
 ghost use Rattle.snap_slabs.specs.Runs.{AreEnds, IsChainRun, IsSide};
 
+use crate::columns_of::is_before;
 use crate::rows::{places_of, rows_of};
 use lay_point::{NoMemory, Point};
-use snap_pixels::HotSet;
+use snap_pixels::{HotSet, partition_from};
 use std::alloc::Global;
 use std::marker::Model;
 use std::thread::Threads;
@@ -84,6 +85,25 @@ impl<'h> Numbers<'h> {
     {
         let found = self.hot.centres().binary_search(&centre);
         found.unwrap() as u32
+    }
+
+    /// Returns the number of a hot centre. The search begins at the number `hint`; any will do.
+    ///
+    /// # Cost
+    ///
+    /// Tests in proportion to the logarithm of how far the number is from the hint; at most twice the logarithm
+    /// of the number of centres.
+    pub fn number_near(&self, centre: Point, hint: u32) -> u32
+        requires { Contains self.now centre }
+        ensures { slice_get self.now result ≡ Some centre }
+    {
+        let centres = self.hot.centres();
+        let found = partition_from(
+            centres.len(),
+            hint as usize,
+            |i| is_before(centres[i], centre),
+        );
+        found as u32
     }
 
     /// Returns the numbers of the chain of a level side, forth or back.

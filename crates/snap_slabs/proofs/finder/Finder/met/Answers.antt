@@ -14,22 +14,22 @@ returns-in-Some c =
     let s = c.args.segment.now in
     let slabs = c.in-Some.slabs.now in
     let found = c.in_ok-in_slabs.in_slabs.items in
-    let held = subst (λ (l : List Point). HoldMet l s.a s.b c.places-from.result) (c.centres.ensures.value ∙ c.self.view_is)
-    c.places-from.ensures.all in
+    let held = subst (λ (l : List Point). HoldMet l s.a s.b c.places_near-from.result) (c.centres.ensures.value ∙ c.self.view_is)
+    c.places_near-from.ensures.all in
     let are_met = coe 0 1 (i. (p : Point) → Contains found p
     ↔ (Contains (points_in slabs) p × Meets (c.turned.ensures.a i) (c.turned.ensures.b i) p)) c.in_ok-in_slabs.ensures in
-    met_in_slabs c.args.self.now found c.in_ok-points.points.items slabs s.a s.b c.places-from.result.0 c.places-from.result.1 held
+    met_in_slabs c.args.self.now found c.in_ok-points.points.items slabs s.a s.b c.places_near-from.result.0 c.places_near-from.result.1 held
     c.in-Some.ensures.inside c.in-Some.ensures.all are_met (c.in_ok-points.ensures ∙ ap (map transposed) c.as_slice.ensures.value)
 
 pub returns : goal.returns
 returns c =
     let s = c.args.segment.now in
-    let from = c.places-from.result.0 in
-    let to = c.places-from.result.1 in
+    let from = c.places_near-from.result.0 in
+    let to = c.places_near-from.result.1 in
     let hot = c.args.self.now in
-    let held = subst (λ (l : List Point). HoldMet l s.a s.b c.places-from.result) (c.centres.ensures.value ∙ c.self.view_is)
-    c.places-from.ensures.all in
+    let held = subst (λ (l : List Point). HoldMet l s.a s.b c.places_near-from.result) (c.centres.ensures.value ∙ c.self.view_is)
+    c.places_near-from.ensures.all in
     let are_met = subst (λ (l : List Point). (p : Point) → Contains c.in_ok-points-2.points.items p
     ↔ (Contains (slice_range l from to) p × Meets s.a s.b p)) (c.centres-2.ensures.value ∙ c.self.view_is) c.in_ok-points-2.ensures in
     met_in_columns hot (slice_range hot from to) c.in_ok-points-2.points.items s.a s.b (in_whole (to - from) from hot)
-    (columns_have_all hot s.a s.b c.places-from.result held) are_met
+    (columns_have_all hot s.a s.b c.places_near-from.result held) are_met

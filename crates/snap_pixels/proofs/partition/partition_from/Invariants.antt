@@ -1,5 +1,5 @@
 use Rattle.std.proofs.Common.{◌≡◌, ◌<◌, ◌≤◌, ◌-◌, ℕ, suc, true, false}
-use Rattle.face_sweep.proofs.search.partition_from.Given as goal
+use Rattle.snap_pixels.proofs.partition.partition_from.Given as goal
 
 -- the test passes just before `low`, and doesn't at `high`
 abbrev pub invariant-loop-low : goal.invariant-loop-low
