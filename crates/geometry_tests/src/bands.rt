@@ -1,6 +1,6 @@
 //! Tests of what no clause says: that calls succeed, and that the labels are those of an operation.
 
-use crate::drawn::{at, owned};
+use crate::drawn::{at, owned, two_squares};
 use band_workers::*;
 use face_rows::Op;
 use lay_point::Ring;
@@ -13,13 +13,7 @@ use std::test::*;
 // of memory: of the AND of two squares that overlap the edges are the four round what they share.
 #[test]
 fn labels_what_two_squares_share(rt: HostRuntime) -> Result<(), Fail> {
-    let low = Ring::rectangle(rt.alloc(), at(0, 0), at(20, 20));
-    let high = Ring::rectangle(rt.alloc(), at(10, 10), at(30, 30));
-    let rings = [
-        owned(Input::First, low.points()),
-        owned(Input::Second, high.points()),
-    ];
-    let clean = round(&rt, rt.alloc(), &rings)?;
+    let clean = two_squares(&rt, rt.alloc())?;
     let labels = OneBand.label_all(&rt, rt.alloc(), &clean, Op::And)?;
     let mut numbers: Vec<usize> = Vec::new(rt.alloc());
     for number in 0..labels.len() {
@@ -35,13 +29,7 @@ fn labels_what_two_squares_share(rt: HostRuntime) -> Result<(), Fail> {
 // Could catch workers that all label one band, a list that is lost or put at other numbers, and a worker that is out of memory.
 #[test]
 fn any_number_of_workers_gives_the_same_labels(rt: HostRuntime) -> Result<(), Fail> {
-    let low = Ring::rectangle(rt.alloc(), at(0, 0), at(20, 20));
-    let high = Ring::rectangle(rt.alloc(), at(10, 10), at(30, 30));
-    let rings = [
-        owned(Input::First, low.points()),
-        owned(Input::Second, high.points()),
-    ];
-    let clean = round(&rt, rt.alloc(), &rings)?;
+    let clean = two_squares(&rt, rt.alloc())?;
     let alone = OneBand.label_all(&rt, rt.alloc(), &clean, Op::Xor)?;
     for workers in [1, 2, 3, 4, 64] {
         let labels = ScopedBands::new(workers).label_all(&rt, rt.alloc(), &clean, Op::Xor)?;

@@ -1,36 +1,17 @@
 //! Tests of what no clause says: that calls succeed, and that the definitions are those of rows and
 //! of an operation's edges.
 
-use crate::drawn::{at, owned};
+use crate::drawn::{at, rounded, two_squares};
 use face_labels::*;
 use face_rows::{Band, Op, row_edges};
-use lay_point::{NoMemory, Ring};
-use snap_chains::{CleanEdges, Input, round};
-use std::alloc::Global;
+use lay_point::Ring;
 use std::test::*;
-use std::thread::Threads;
-
-/// Returns the edges of two rounded rings, one of each input.
-fn rounded(
-    rt: &(impl Threads + Sync),
-    alloc: Global,
-    first: &Ring,
-    second: &Ring,
-) -> Result<CleanEdges, NoMemory> {
-    let rings = [
-        owned(Input::First, first.points()),
-        owned(Input::Second, second.points()),
-    ];
-    round(rt, alloc, &rings)
-}
 
 // Could catch a row that lists level edges or edges that end below it, and an order from right to
 // left.
 #[test]
 fn lists_the_edges_of_a_row(rt: HostRuntime) -> Result<(), Fail> {
-    let first = Ring::rectangle(rt.alloc(), at(0, 0), at(20, 20));
-    let second = Ring::rectangle(rt.alloc(), at(10, 10), at(30, 30));
-    let edges = rounded(&rt, rt.alloc(), &first, &second)?;
+    let edges = two_squares(&rt, rt.alloc())?;
     let rows: [(i32, &[usize]); 4] = [(-1, &[]), (5, &[0, 8]), (15, &[0, 3, 9, 11]), (30, &[])];
     for (row, want) in rows {
         let numbers = row_edges(rt.alloc(), &edges, row)?;
@@ -43,9 +24,7 @@ fn lists_the_edges_of_a_row(rt: HostRuntime) -> Result<(), Fail> {
 // of two squares that overlap the edges are the four round what they share.
 #[test]
 fn labels_the_edges_of_a_band(rt: HostRuntime) -> Result<(), Fail> {
-    let first = Ring::rectangle(rt.alloc(), at(0, 0), at(20, 20));
-    let second = Ring::rectangle(rt.alloc(), at(10, 10), at(30, 30));
-    let edges = rounded(&rt, rt.alloc(), &first, &second)?;
+    let edges = two_squares(&rt, rt.alloc())?;
     let low: &[(usize, bool)] = &[(0, false), (1, false), (8, false)];
     let high: &[(usize, bool)] = &[
         (2, false),

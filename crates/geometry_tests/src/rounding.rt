@@ -1,19 +1,12 @@
 //! Tests of what no clause says: that the definitions are those of snap rounding, and that calls
 //! succeed.
-ghost use Rattle.std.specs.Prelude.{◌≡◌};
 
+use crate::drawn::{at, owned, two_squares};
 use lay_point::{Edge, Point, Ring};
 use snap_chains::*;
 use snap_pixels::{Segment, hot_plain};
 use std::alloc::{AllocError, Global};
 use std::test::*;
-
-/// Returns the point of these coordinates.
-fn at(x: i32, y: i32) -> Point
-    ensures { result ≡ record { x = x; y = y } }
-{
-    Point { x, y }
-}
 
 /// Returns the segments between these ends, without those whose ends are one point.
 fn segments(alloc: Global, ends: &[(Point, Point)]) -> Result<Vec<Segment>, AllocError> {
@@ -81,27 +74,11 @@ fn rounded_rings_go_through_what_they_pass(rt: HostRuntime) -> Result<(), Fail> 
 // squares that overlap have 12 edges.
 #[test]
 fn rounds_rings_together(rt: HostRuntime) -> Result<(), Fail> {
-    let first = Ring::rectangle(rt.alloc(), at(0, 0), at(20, 20));
-    let second = Ring::rectangle(rt.alloc(), at(10, 10), at(30, 30));
-    let rings = [
-        owned(Input::First, first.points()),
-        owned(Input::Second, second.points()),
-    ];
-    let together = round(&rt, rt.alloc(), &rings)?;
+    let together = two_squares(&rt, rt.alloc())?;
     let rounded = Rounded::from_edges(rt.alloc(), together.edges())?;
     let clean = check_clean(rt.alloc(), rounded)?;
     assert_eq!(rt; clean.edges().len(), 12);
     Ok(())
-}
-
-/// Returns the ring of the first shape of an input.
-fn owned(input: Input, points: &[Point]) -> OwnedRing<'_>
-    ensures { result.1 ≡ points.now }
-{
-    OwnedRing {
-        owner: Owner { input, shape: 0 },
-        points,
-    }
 }
 
 // Could catch a definition of cleanness by which edges that touch or overlap are clean, or those that
@@ -191,13 +168,7 @@ fn are(clean: &CleanEdges, want: &[(Point, Point, &[Owner])]) -> bool {
 // another shape than the one whose side it is a part of, or crossing sides aren't cut.
 #[test]
 fn two_squares_that_overlap_have_12_edges(rt: HostRuntime) -> Result<(), Fail> {
-    let low = Ring::rectangle(rt.alloc(), at(0, 0), at(20, 20));
-    let high = Ring::rectangle(rt.alloc(), at(10, 10), at(30, 30));
-    let rings = [
-        owned(Input::First, low.points()),
-        owned(Input::Second, high.points()),
-    ];
-    let clean = round(&rt, rt.alloc(), &rings)?;
+    let clean = two_squares(&rt, rt.alloc())?;
     let first: &[Owner] = &[shape(Input::First)];
     let second: &[Owner] = &[shape(Input::Second)];
     let want: [(Point, Point, &[Owner]); 12] = [

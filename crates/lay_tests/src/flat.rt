@@ -62,56 +62,47 @@ fn a_triangle_is_mirrored_and_turned(rt: HostRuntime) -> Result<(), Fail> {
     Ok(())
 }
 
-/// Returns a text of so many symbols, of which each but the last calls the next twice, and the last has a box.
-fn doubling(alloc: Global, symbols: u32) -> Result<Vec<u8>, Fail> {
+/// Returns a text of so many symbols, of which each but the last calls the next so many times, and the last has a box.
+fn chain(alloc: Global, symbols: u32, times: u32) -> Result<Vec<u8>, Fail> {
     let mut text = Vec::new(alloc);
     for number in 1..symbols {
-        let next = number + 1;
-        write!(text, "DS {number}; C {next}; C {next}; DF; ")?;
+        write!(text, "DS {number};")?;
+        put_calls(&mut text, number + 1, times)?;
+        write!(text, " DF; ")?;
     }
     write!(text, "DS {symbols}; L A; B 2 2 0 0; DF; E")?;
     Ok(text)
+}
+
+/// Appends so many calls of the symbol.
+fn put_calls(text: &mut Vec<u8>, symbol: u32, times: u32) -> Result<(), Fail> {
+    for _ in 0..times {
+        write!(text, " C {symbol};")?;
+    }
+    Ok(())
+}
+
+/// Returns how many rings are below symbol 1 of such a text, or why it isn't flattened.
+fn rings_of(alloc: Global, symbols: u32, times: u32) -> Result<Result<usize, FlatFault>, Fail> {
+    let text = chain(alloc, symbols, times)?;
+    let snapshot = Snapshot::from_cif(alloc, read(alloc, &text)?)?;
+    let layer = LayerName::new(b"A").ok_or("no layer name")?;
+    let flat = flatten(alloc, &snapshot, CellId::Symbol(1), &layer);
+    Ok(flat.map(|flat| flat.rings().len()))
 }
 
 // Could catch a limit of walks that counts only those that reach a ring, and a flattening that gives up before it.
 #[test]
 fn the_most_walks_are_flattened(rt: HostRuntime) -> Result<(), Fail> {
-    let alloc = rt.alloc();
-    let layer = LayerName::new(b"A").ok_or("no layer name")?;
-    let text = doubling(alloc, 16)?;
-    let snapshot = Snapshot::from_cif(alloc, read(alloc, &text)?)?;
-    let flat = flatten(alloc, &snapshot, CellId::Symbol(1), &layer)?;
-    assert_eq!(rt; flat.rings().len(), 32_768);
-    let text = doubling(alloc, 17)?;
-    let snapshot = Snapshot::from_cif(alloc, read(alloc, &text)?)?;
-    let fault = flatten(alloc, &snapshot, CellId::Symbol(1), &layer).err();
-    assert_eq!(rt; fault, Some(FlatFault::TooMany));
+    assert_eq!(rt; rings_of(rt.alloc(), 16, 2)?, Ok(32_768));
+    assert_eq!(rt; rings_of(rt.alloc(), 17, 2)?, Err(FlatFault::TooMany));
     Ok(())
-}
-
-/// Returns a text of so many symbols, of which each but the last calls the next, and the last has a box.
-fn chain(alloc: Global, symbols: u32) -> Result<Vec<u8>, Fail> {
-    let mut text = Vec::new(alloc);
-    for number in 1..symbols {
-        let next = number + 1;
-        write!(text, "DS {number}; C {next}; DF; ")?;
-    }
-    write!(text, "DS {symbols}; L A; B 2 2 0 0; DF; E")?;
-    Ok(text)
 }
 
 // Could catch a depth that counts cells in place of calls, and a chain of the greatest depth that is refused.
 #[test]
 fn a_chain_of_64_calls_is_flattened(rt: HostRuntime) -> Result<(), Fail> {
-    let alloc = rt.alloc();
-    let layer = LayerName::new(b"A").ok_or("no layer name")?;
-    let text = chain(alloc, 65)?;
-    let snapshot = Snapshot::from_cif(alloc, read(alloc, &text)?)?;
-    let flat = flatten(alloc, &snapshot, CellId::Symbol(1), &layer)?;
-    assert_eq!(rt; flat.rings().len(), 1);
-    let text = chain(alloc, 66)?;
-    let snapshot = Snapshot::from_cif(alloc, read(alloc, &text)?)?;
-    let fault = flatten(alloc, &snapshot, CellId::Symbol(1), &layer).err();
-    assert_eq!(rt; fault, Some(FlatFault::TooDeep));
+    assert_eq!(rt; rings_of(rt.alloc(), 65, 1)?, Ok(1));
+    assert_eq!(rt; rings_of(rt.alloc(), 66, 1)?, Err(FlatFault::TooDeep));
     Ok(())
 }

@@ -5,15 +5,25 @@ use std::alloc::Global;
 use std::collections::BTreeMap;
 use std::test::*;
 
+/// Returns the map with the keys from `first` up to `end`, each written after the one before it.
+fn grown(
+    alloc: Global,
+    mut map: Pages<u32, u32>,
+    first: u32,
+    end: u32,
+) -> Result<Pages<u32, u32>, Fail> {
+    for key in first..end {
+        map = map.with(alloc, key, Some(key))?;
+    }
+    Ok(map)
+}
+
 // Could catch a page that is cut before it is full, or in the middle where it grows at its end, and empty
 // pages that are kept.
 #[test]
 fn a_page_that_grows_is_cut_when_it_is_full(rt: HostRuntime) -> Result<(), Fail> {
     let alloc = rt.alloc();
-    let mut full: Pages<u32, u32> = Pages::new(alloc);
-    for key in 0..64 {
-        full = full.with(alloc, key, Some(key))?;
-    }
+    let full = grown(alloc, Pages::new(alloc), 0, 64)?;
     assert!(rt; full.len() == 64 && full.pages() == 1);
     let more = full.with(alloc, 64, Some(64))?;
     assert!(rt; more.len() == 65 && more.pages() == 2);
@@ -24,11 +34,8 @@ fn a_page_that_grows_is_cut_when_it_is_full(rt: HostRuntime) -> Result<(), Fail>
         none = none.with(alloc, key, None)?;
     }
     assert!(rt; none.len() == 0 && none.pages() == 0);
-    let mut grown = more.share(alloc)?;
-    for key in 65..129 {
-        grown = grown.with(alloc, key, Some(key))?;
-    }
-    assert!(rt; grown.len() == 129 && grown.pages() == 3);
+    let most = grown(alloc, more.share(alloc)?, 65, 129)?;
+    assert!(rt; most.len() == 129 && most.pages() == 3);
     assert!(rt; full.len() == 64 && full.get(0) == Some(&0) && full.get(64).is_none());
     assert!(rt; more.get(0) == Some(&0) && less.get(0).is_none() && less.get(64) == Some(&64));
     Ok(())
@@ -115,10 +122,7 @@ fn a_hundred_thousand_writes_leave_what_a_plain_map_has(rt: HostRuntime) -> Resu
 #[test]
 fn entries_are_lent_in_order_from_a_key_on(rt: HostRuntime) -> Result<(), Fail> {
     let alloc = rt.alloc();
-    let mut map: Pages<u32, u32> = Pages::new(alloc);
-    for key in 0..5000 {
-        map = map.with(alloc, key, Some(key))?;
-    }
+    let map = grown(alloc, Pages::new(alloc), 0, 5000)?;
     assert!(rt; map.iter().map(|(key, _)| key).eq(0..5000));
     assert!(rt; map.from(2500).map(|(key, _)| key).eq(2500..5000));
     let less = map.with(alloc, 2500, None)?;

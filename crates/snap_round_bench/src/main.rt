@@ -37,10 +37,7 @@ fn rings(alloc: Global, text: &str) -> anyhow::Result<Vec<Ring>> {
 
 /// Reads the ring of a line.
 fn ring(alloc: Global, line: &str) -> anyhow::Result<Ring> {
-    let mut numbers: Vec<i32> = Vec::new(alloc);
-    for word in line.split_whitespace() {
-        numbers.push(word.parse()?)?;
-    }
+    let numbers = numbers(alloc, line)?;
     let mut points = Vec::new(alloc);
     for pair in numbers.chunks_exact(2) {
         if let [x, y] = pair {
@@ -50,6 +47,15 @@ fn ring(alloc: Global, line: &str) -> anyhow::Result<Ring> {
     Ring::new(alloc, points.as_slice())
         .ok()
         .context("a line isn't a ring")
+}
+
+/// Reads the numbers of a line.
+fn numbers(alloc: Global, line: &str) -> anyhow::Result<Vec<i32>> {
+    let mut numbers = Vec::new(alloc);
+    for word in line.split_whitespace() {
+        numbers.push(word.parse()?)?;
+    }
+    Ok(numbers)
 }
 
 /// Returns the rings, each of a shape of its own.
