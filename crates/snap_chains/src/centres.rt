@@ -49,7 +49,8 @@ impl<'h> Centres<'h> {
         Ok(Centres { numbers, finder })
     }
 
-    /// Returns the numbers of the chain of a segment, in the order in which it goes.
+    /// Returns the numbers of the chain of a segment, in the order in which it goes. The searches begin at `from` and
+    /// `to`, the numbers of its ends; any will do.
     ///
     /// # Errors
     ///
@@ -57,13 +58,22 @@ impl<'h> Centres<'h> {
     ///
     /// # Cost
     ///
-    /// That of the chain, and a binary search for each of its centres.
-    pub fn chain_numbers(&self, alloc: Global, segment: &Segment) -> Result<Vec<u32>, NoMemory>
+    /// That of the chain, and for each of its centres a search from the number of the one before: a few steps
+    /// where neighbours in the chain are neighbours in the order of points, and at most twice the logarithm of
+    /// the number of centres.
+    pub fn chain_numbers(
+        &self,
+        alloc: Global,
+        segment: &Segment,
+        from: u32,
+        to: u32,
+    ) -> Result<Vec<u32>, NoMemory>
         ensures inside { IfOk result (λ numbers. (k : ℕ) → Contains numbers.items k → k < length self.now) }
         ensures chain { IfOk result (λ numbers. IsChain (Contains self.now) segment.now (centres_at self.now numbers.items)) }
     {
-        let points = chain_in(alloc, segment, &self.finder)?;
-        let numbers = numbers_of(alloc, &self.numbers, points.as_slice())?;
+        let near = (from.min(to) as usize, from.max(to) as usize);
+        let points = chain_in(alloc, segment, &self.finder, near)?;
+        let numbers = numbers_of(alloc, &self.numbers, points.as_slice(), from)?;
         Ok(numbers)
     }
 }
@@ -87,15 +97,23 @@ fn is_slanted(segment: &Segment) -> bool {
     segment.a().x != segment.b().x && segment.a().y != segment.b().y
 }
 
-/// Returns the numbers of these centres.
-fn numbers_of(alloc: Global, numbers: &Numbers, points: &[Point]) -> Result<Vec<u32>, AllocError>
+/// Returns the numbers of these centres. Each search begins at the number of the centre before, and the first one at
+/// `from`; any will do.
+fn numbers_of(
+    alloc: Global,
+    numbers: &Numbers,
+    points: &[Point],
+    from: u32,
+) -> Result<Vec<u32>, AllocError>
     requires { (c : Point) → Contains points.now c → Contains numbers.now c }
     ensures centres { IfOk result (λ found. centres_at numbers.now found.items ≡ points.now) }
     ensures inside { IfOk result (λ found. (k : ℕ) → Contains found.items k → k < length numbers.now) }
 {
     let mut found = Vec::with_capacity(alloc, points.len())?;
+    let mut near = from;
     for point in points {
-        found.push(numbers.number(*point))?;
+        near = numbers.number_near(*point, near);
+        found.push(near)?;
     }
     Ok(found)
 }

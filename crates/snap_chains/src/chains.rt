@@ -26,19 +26,21 @@ pub fn chain(alloc: Global, segment: &Segment, hot: &HotSet) -> Result<Vec<Point
     ensures { IfOk result (λ points. IsChain (Contains hot.now) segment.now points.items) }
 {
     let finder = Finder::plain(alloc, hot);
-    let points = chain_in(alloc, segment, &finder)?;
+    let points = chain_in(alloc, segment, &finder, (0, 0))?;
     Ok(points)
 }
 
-/// Returns the chain of the segment, as `chain` does, of the centres of the finder.
+/// Returns the chain of the segment, as `chain` does, of the centres of the finder. `near` are indices of centres near
+/// the segment's ends, the lesser first, where the search begins; any will do.
 pub(crate) fn chain_in(
     alloc: Global,
     segment: &Segment,
     finder: &Finder,
+    near: (usize, usize),
 ) -> Result<Vec<Point>, NoMemory>
     ensures { IfOk result (λ points. IsChain (Contains finder.now) segment.now points.items) }
 {
-    let mut points = finder.met(alloc, segment)?;
+    let mut points = finder.met(alloc, segment, near)?;
     points.sort_unstable_by_key(|point: &Point| (key(segment, *point), *point));
     points.dedup();
     Ok(points)

@@ -151,7 +151,7 @@ fn add_side(
         extend_by_numbers(passes, row, owner)?;
         return Ok(());
     }
-    let slanted = centres.chain_numbers(alloc, side)?;
+    let slanted = centres.chain_numbers(alloc, side, from, to)?;
     extend_by_numbers(passes, slanted.as_slice(), owner)?;
     Ok(())
 }
