@@ -87,18 +87,24 @@ fn is_among(symbols: &BTreeSet<u32>, cell: CellId) -> bool {
 
 /// Returns the graph of a layout's calls.
 fn graph_of(alloc: Global, snapshot: &Snapshot) -> Result<Graph, NoMemory> {
+    let count = snapshot.cells().len();
     let mut graph = Graph {
-        callers: Vec::new(alloc),
+        callers: no_callers(alloc, count)?,
         called: Vec::new(alloc),
     };
-    let count = snapshot.cells().len();
-    for _ in 0..=count {
-        graph.callers.push(Vec::new(alloc))?;
-    }
     for place in 0..=count {
         graph.add(alloc, snapshot, place)?;
     }
     Ok(graph)
+}
+
+/// Returns a list without callers for each of so many symbols and for the top cell.
+fn no_callers(alloc: Global, symbols: usize) -> Result<Vec<Vec<usize>>, NoMemory> {
+    let mut callers = Vec::new(alloc);
+    for _ in 0..=symbols {
+        callers.push(Vec::new(alloc))?;
+    }
+    Ok(callers)
 }
 
 /// Returns the places of the cells that call none.

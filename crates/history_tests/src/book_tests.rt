@@ -1,22 +1,19 @@
 //! Tests of what no clause says: that calls succeed with ample memory, and that definitions mean what they
 //! should.
 
+use crate::drawn::{a_box, empty};
 use band_workers::OneBand;
-use cif_layout::FromCif;
-use lay_cells::CellId;
-use lay_items::Snapshot;
-use lay_point::{LayerName, Point};
 use std::alloc::Global;
 use std::test::*;
 use std::thread::Threads;
-use txn_commands::{Command, TxnId};
+use txn_commands::TxnId;
 use txn_work::Work;
 use undo_book::{Book, MAX_CALLS};
 use undo_rules::BookFault;
 
 /// Returns a book on the layout without items, of which this many calls are logged at most.
 fn book_of(alloc: Global, limit: u32) -> Result<Book, Fail> {
-    let base = Snapshot::from_cif(alloc, cif_read::read(alloc, b"E")?)?;
+    let base = empty(alloc)?;
     if limit == 0 || limit > MAX_CALLS {
         return Ok(Book::new(alloc, base)?);
     }
@@ -25,13 +22,7 @@ fn book_of(alloc: Global, limit: u32) -> Result<Book, Fail> {
 
 /// Runs a box of this side in the work.
 fn draw(rt: &(impl Threads + Sync), alloc: Global, work: &mut Work, side: i32) -> Result<(), Fail> {
-    let command = Command::Box {
-        cell: CellId::Top,
-        layer: LayerName::new(b"M").ok_or("no layer name")?,
-        a: Point { x: 0, y: 0 },
-        b: Point { x: side, y: side },
-    };
-    work.run(rt, alloc, command, &OneBand)?;
+    work.run(rt, alloc, a_box(side)?, &OneBand)?;
     Ok(())
 }
 

@@ -2,12 +2,12 @@
 //! two sessions a write is read back.
 ghost use Rattle.std.specs.Prelude.{◌≡◌};
 
+use crate::drawn::a_box;
 use band_workers::OneBand;
 use cif_layout::FromCif;
-use lay_cells::CellId;
 use lay_items::Snapshot;
 use lay_layouts::ItemId;
-use lay_point::{LayerName, Point};
+use lay_point::Point;
 use locked_desk::{CloseRefusal, Desk, DeskFault, Seat};
 use std::alloc::Global;
 use std::marker::Brand;
@@ -19,20 +19,17 @@ use txn_commands::Command;
 use txn_work::Work;
 use undo_rules::BookFault;
 
+/// The box of a layout of one.
+const BASE: ItemId = ItemId {
+    session: 0,
+    txn: 0,
+    seq: 1,
+};
+
 /// Returns a layout of one box.
 fn one_box(alloc: Global) -> Result<Snapshot, Fail> {
     let file = cif_read::read(alloc, b"L M; B 4 2 0 0; E")?;
     Ok(Snapshot::from_cif(alloc, file)?)
-}
-
-/// Returns the command that draws another.
-fn draw() -> Result<Command, Fail> {
-    Ok(Command::Box {
-        cell: CellId::Top,
-        layer: LayerName::new(b"M").ok_or("no layer name")?,
-        a: Point { x: 0, y: 0 },
-        b: Point { x: 5, y: 5 },
-    })
 }
 
 /// Opens a work of the session and draws a box in it.
@@ -43,7 +40,7 @@ fn drawn<L: Ledger, R: Threads + Wait + Sync>(
     seat: &mut Seat<L>,
 ) -> Result<Work, Fail> {
     let mut work = desk.open(rt, alloc, seat)?;
-    work.run(rt, alloc, draw()?, &OneBand)?;
+    work.run(rt, alloc, a_box(5)?, &OneBand)?;
     Ok(work)
 }
 
@@ -160,12 +157,7 @@ fn commits<L: Ledger, R: Threads + Wait + Sync>(
     seat: &mut Seat<L>,
 ) -> Result<bool, Fail> {
     let mut work = drawn(rt, alloc, desk, seat)?;
-    let base = ItemId {
-        session: 0,
-        txn: 0,
-        seq: 1,
-    };
-    work.run(rt, alloc, Command::Delete(base), &OneBand)?;
+    work.run(rt, alloc, Command::Delete(BASE), &OneBand)?;
     Ok(desk.commit(rt, alloc, seat, work).is_ok())
 }
 
@@ -185,15 +177,10 @@ fn keeps_points<L: Ledger, R: Threads + Wait + Sync>(
     let Some(mut writer) = seats.pop() else {
         return Ok(false);
     };
-    let base = ItemId {
-        session: 0,
-        txn: 0,
-        seq: 1,
-    };
     let old = desk.snapshot(rt, alloc, &reader)?;
-    let points = old.points(base, 0).ok_or("no points")?;
+    let points = old.points(BASE, 0).ok_or("no points")?;
     let gone = commits(rt, alloc, &desk, &mut writer)?
-        && desk.snapshot(rt, alloc, &reader)?.item(base).is_none();
+        && desk.snapshot(rt, alloc, &reader)?.item(BASE).is_none();
     Ok(gone && points.len() == 4 && points.first() == Some(&Point { x: -4, y: -2 }))
 }
 

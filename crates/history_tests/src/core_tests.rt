@@ -1,33 +1,15 @@
 //! Tests of what no clause says: that steps succeed with ample memory, and that definitions mean what they
 //! should.
 
+use crate::drawn::{a_box, empty};
 use band_workers::OneBand;
-use cif_layout::FromCif;
-use lay_cells::CellId;
-use lay_items::Snapshot;
-use lay_point::{LayerName, Point};
 use session_core::Machine;
 use session_steps::{Reply, Step, StepFault};
 use std::alloc::Global;
 use std::test::*;
 use std::thread::Threads;
-use txn_commands::{Command, Done, TxnId};
+use txn_commands::{Done, TxnId};
 use undo_rules::BookFault;
-
-/// Returns the layout without items.
-pub(crate) fn empty(alloc: Global) -> Result<Snapshot, Fail> {
-    Ok(Snapshot::from_cif(alloc, cif_read::read(alloc, b"E")?)?)
-}
-
-/// Returns the step that draws a box of this side.
-fn draw(side: i32) -> Result<Step, Fail> {
-    Ok(Step::Do(Command::Box {
-        cell: CellId::Top,
-        layer: LayerName::new(b"M").ok_or("no layer name")?,
-        a: Point { x: 0, y: 0 },
-        b: Point { x: side, y: side },
-    }))
-}
 
 /// Returns whether the book refused the step as its log was full.
 fn is_log_full(reply: &Reply) -> bool {
@@ -65,7 +47,13 @@ fn begin(
     session: u8,
 ) -> Result<bool, Fail> {
     let opened = machine.step(rt, alloc, session, Step::Open, &OneBand);
-    let drawn = machine.step(rt, alloc, session, draw(i32::from(session))?, &OneBand);
+    let drawn = machine.step(
+        rt,
+        alloc,
+        session,
+        Step::Do(a_box(i32::from(session))?),
+        &OneBand,
+    );
     Ok(opened == Reply::Opened(1) && matches!(drawn, Reply::Done(Done::Made(_))))
 }
 

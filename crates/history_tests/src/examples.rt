@@ -1,33 +1,22 @@
 //! The examples of the root files, run. Each could catch an example that isn't true of the calls that it shows.
 
-use crate::core_tests::empty;
+use crate::drawn::{a_box, empty};
 use band_workers::OneBand;
 use job_text::order_of;
-use lay_cells::CellId;
-use lay_point::{LayerName, Point, Sequence};
+use lay_point::Sequence;
 use locked_desk::run_scripts;
 use session_core::Machine;
 use session_steps::{Reply, Step};
 use std::alloc::Global;
 use std::test::*;
-use txn_commands::{Command, TxnId};
+use txn_commands::TxnId;
 use undo_book::Book;
-
-/// Returns the command that draws a box in the top cell.
-fn a_box() -> Result<Command, Fail> {
-    Ok(Command::Box {
-        cell: CellId::Top,
-        layer: LayerName::new(b"M").ok_or("no layer name")?,
-        a: Point { x: 0, y: 0 },
-        b: Point { x: 10, y: 10 },
-    })
-}
 
 /// Returns one script, which draws a box in a transaction.
 fn one_script(alloc: Global) -> Result<Sequence<Sequence<Step>>, Fail> {
     let mut steps = Vec::new(alloc);
     steps.push(Step::Open)?;
-    steps.push(Step::Do(a_box()?))?;
+    steps.push(Step::Do(a_box(10)?))?;
     steps.push(Step::Commit)?;
     let mut scripts = Vec::new(alloc);
     scripts.push(Sequence::from_vec(steps))?;
@@ -37,7 +26,7 @@ fn one_script(alloc: Global) -> Result<Sequence<Sequence<Step>>, Fail> {
 #[test]
 fn a_transaction_is_undone_and_redone(rt: HostRuntime) -> Result<(), Fail> {
     let alloc = rt.alloc();
-    let (base, command) = (empty(alloc)?, a_box()?);
+    let (base, command) = (empty(alloc)?, a_box(10)?);
     let mut book = Book::new(alloc, base)?;
     let mut work = book.open(alloc, 1)?;
     work.run(&rt, alloc, command, &OneBand)?;
@@ -51,7 +40,7 @@ fn a_transaction_is_undone_and_redone(rt: HostRuntime) -> Result<(), Fail> {
 #[test]
 fn a_session_takes_steps(rt: HostRuntime) -> Result<(), Fail> {
     let alloc = rt.alloc();
-    let (base, command) = (empty(alloc)?, a_box()?);
+    let (base, command) = (empty(alloc)?, a_box(10)?);
     let steps = vec![in alloc; (1, Step::Open), (1, Step::Do(command)), (1, Step::Commit)]?;
     let (machine, replies) = Machine::run(&rt, alloc, base, 1, steps, &OneBand)?;
     let layout = machine.book().snapshot();

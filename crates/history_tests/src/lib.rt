@@ -13,6 +13,8 @@ mod core_tests;
 #[cfg(test)]
 mod desk_runs;
 #[cfg(test)]
+mod drawn;
+#[cfg(test)]
 mod examples;
 #[cfg(test)]
 mod live_runs;

@@ -47,9 +47,10 @@ use telling::{report_error, tell_of_input, tell_of_layout};
 /// top cell that is empty while the layout has symbols. With `threaded` the sessions run in threads over one
 /// desk, the job's own order plays no part, and the order that is written is that of the desk's log. With
 /// `oriented` the layout's shapes are directed before it is written, and where some stay as they were that is
-/// reported to `errors` too. With neither, the input and `named` alone decide the output. With `named` each
-/// symbol is written with the names and labels that it had in the job's text. The memory of a layout that was written
-/// isn't given back, since the program ends there.
+/// reported to `errors` too. With neither, the input, `named`, `bare` and `boxed` alone decide the output. With `named`
+/// each symbol is written with the names and labels that it had in the job's text, with `bare` the input is a CIF text
+/// and no job, and with `boxed` upright rectangles are written as boxes. With `strict` a refused step tells in the status
+/// alone. The memory of a layout that was written isn't given back, since the program ends there.
 pub fn run<I: In, O: Out, E: Out>(
     rt: &(impl Threads + Wait + Sync),
     alloc: Global,
