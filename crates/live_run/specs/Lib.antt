@@ -1,8 +1,8 @@
 pub mod Cif
 pub mod Course
 pub mod Devices
-pub mod LineFeed
 pub mod Ending
+pub mod Feed
 pub mod Journal
 pub mod Laws
 pub mod Live
