@@ -22,7 +22,8 @@ use Rattle.cif_read.specs.declared.content.Content.{Content}
 use Rattle.cif_read.specs.declared.fault.FaultKind.TheVariants.{OffGrid}
 use Rattle.cif_read.specs.Calls.{origin}
 use Rattle.cif_read.specs.Content.{after_polygon, current_scale}
-use Rattle.cif_read.specs.Polygons.{point_in_range, points_from, polygon_at, ring_of_points, ring_or_none}
+use Rattle.cif_read.specs.Polygons.{points_from, polygon_at, ring_of_points, ring_or_none}
+use Rattle.lay_point.specs.Turns.{within_range}
 use Rattle.cif_read.specs.Scales.{IsRatio, doubled, is_whole, is_whole_vertex, scaled_vertex}
 use Rattle.cif_read.proofs.RingFacts.{taken}
 use Rattle.cif_read.proofs.ScaleLemmas.{scaled_exact}
@@ -147,7 +148,7 @@ points_are scale found [] ps e =
     let same : found ≡ ps = cc in
     append-nil found ∙ same
 points_are scale found (v ∷ vs) ps e =
-    after_some (point_in_range (scaled_vertex scale v)) (λ p. points_from scale (found ++ p ∷ []) vs) ps e (λ p is rest.
+    after_some (within_range (scaled_vertex scale v)) (λ p. points_from scale (found ++ p ∷ []) vs) ps e (λ p is rest.
     let same : scaled_vertex scale v ≡ p = (cond_some (is_in_range (scaled_vertex scale v)) (scaled_vertex scale v) p is).1 in
     ap (λ q. found ++ q ∷ map (scaled_vertex scale) vs) same
     ∙ sym (append_assoc found (p ∷ []) (map (scaled_vertex scale) vs))

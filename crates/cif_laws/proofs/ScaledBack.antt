@@ -12,7 +12,8 @@ use Rattle.lay_point.specs.declared.point.Point.{Point}
 use Rattle.lay_point.specs.Points.{is_coordinate, is_in_range}
 use Rattle.lay_point.specs.Rings.{IsRing}
 use Rattle.lay_point.proofs.BridgeLemmas.{ring_of_ring}
-use Rattle.cif_read.specs.Polygons.{is_above_written, is_too_big, point_in_range, points_from, polygon_at, ring_of_points, ring_or_none}
+use Rattle.cif_read.specs.Polygons.{is_above_written, is_too_big, points_from, polygon_at, ring_of_points, ring_or_none}
+use Rattle.lay_point.specs.Turns.{within_range}
 use Rattle.cif_read.specs.Scales.{doubled, is_whole, is_whole_vertex, scaled, scaled_vertex}
 use Rattle.cif_read.proofs.ScaleLemmas.{not_negative}
 use Rattle.cif_laws.proofs.WrittenLines.{half}
@@ -68,8 +69,8 @@ small_path [] h = refl
 small_path (p ∷ ps) h =
     let both = and_parts (is_in_range p) (list_all is_in_range ps) h in rw (small_point p both.0) (small_path ps both.1)
 
-kept_point : (p : Point) → is_in_range p ≡ true → point_in_range (scaled_vertex half (vertex_of p)) ≡ Some p
-kept_point p h = ap point_in_range (point_back p) ∙ ap (λ b. cond b (Some p) None) h
+kept_point : (p : Point) → is_in_range p ≡ true → within_range (scaled_vertex half (vertex_of p)) ≡ Some p
+kept_point p h = ap within_range (point_back p) ∙ ap (λ b. cond b (Some p) None) h
 
 points_back : (found ps : List Point) → list_all is_in_range ps ≡ true → points_from half found (map vertex_of ps) ≡ Some (found ++ ps)
 unfolding points_from

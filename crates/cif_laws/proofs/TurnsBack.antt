@@ -8,14 +8,13 @@ use Rattle.lay_point.specs.declared.turn.Quarter.{Quarter}
 use Rattle.lay_point.specs.declared.turn.Quarter.TheVariants.{R0, R180, R270, R90}
 use Rattle.lay_point.specs.declared.turn.Turn.{Turn}
 use Rattle.lay_point.specs.Points.{is_in_range, point_eq}
-use Rattle.lay_point.specs.Turns.{composed, turned, unturned}
+use Rattle.lay_point.specs.Turns.{composed, turned, unturned, within_range}
 use Rattle.lay_point.proofs.RingLemmas.{point_eq-true}
 use Rattle.cif_grammar.specs.declared.calls.Change.{Change}
 use Rattle.cif_grammar.specs.declared.calls.Change.TheVariants.{Shift}
 use Rattle.cif_grammar.specs.Definitions.{plain_scale}
 use Rattle.cif_read.specs.Calls.{call_turn, is_askew_change, is_big_change}
 use Rattle.cif_read.specs.Calls.{is_whole_change, origin, turn_changed_by, turn_in_range, turn_or_fault}
-use Rattle.cif_read.specs.Polygons.{point_in_range}
 use Rattle.cif_read.proofs.TurnLemmas.{shift_found, sum_of}
 use Rattle.cif_laws.proofs.ScaledBack.{point_back, small_point, whole_point}
 use Rattle.cif_laws.proofs.WrittenLines.{half}
@@ -109,8 +108,8 @@ shift_turned mirror quarter shift h true e =
     ap (λ s. Some (record { mirror = mirror; quarter = quarter; shift = s })) (sym (point_eq-true shift origin e))
 shift_turned mirror quarter shift h false e =
     let turn = unshifted mirror quarter in
-    let found : point_in_range (sum_of turn shift) ≡ Some shift =
-    ap point_in_range (sum_is mirror quarter shift) ∙ ap (λ b. cond b (Some shift) None) h in
+    let found : within_range (sum_of turn shift) ≡ Some shift =
+    ap within_range (sum_is mirror quarter shift) ∙ ap (λ b. cond b (Some shift) None) h in
     ap (λ o. option_and_then (λ next. turn_changed_by half next []) o)
     (ap (λ s. turn_in_range (composed turn (record { mirror = false; quarter = R0; shift = s }))) (point_back shift)
     ∙ sym (shift_found turn shift (Some shift) found))

@@ -13,7 +13,7 @@ use Rattle.cif_grammar.specs.declared.definitions.Scale.{Scale}
 use Rattle.cif_read.specs.Boxes.{high_coordinate, high_corner, is_big_box, is_flat}
 use Rattle.cif_read.specs.Boxes.{is_upright, is_whole_box, is_whole_side, low_coordinate, low_corner}
 use Rattle.cif_read.specs.Boxes.{side_x, side_y}
-use Rattle.cif_read.specs.Polygons.{point_in_range}
+use Rattle.lay_point.specs.Turns.{within_range}
 use Rattle.cif_read.specs.Scales.{IsRatio, is_whole}
 use Rattle.cif_read.proofs.ScaleLemmas.{scaled_rises}
 
@@ -47,7 +47,7 @@ pub record Spans (low high : Point) : Type 0 where
   pub tall : low.y <ℤ high.y
 
 pub spans : (scale : Scale) (b : BoxNumbers) (low high : Point) → IsRatio scale → is_whole_box scale b ≡ true → is_flat b ≡ false
-    → point_in_range (low_corner scale b) ≡ Some low → point_in_range (high_corner scale b) ≡ Some high → Spans low high
+    → within_range (low_corner scale b) ≡ Some low → within_range (high_corner scale b) ≡ Some high → Spans low high
 spans scale b low high ratio whole wide low_found high_found =
     let sides = and_parts (is_whole_side scale b.centre.x (side_x b)) (is_whole_side scale b.centre.y (side_y b)) whole in
     let x = and_parts (is_whole scale (low_coordinate b.centre.x (side_x b))) (is_whole scale (high_coordinate b.centre.x (side_x b)))

@@ -6,8 +6,8 @@ use Rattle.std.specs.List.{list_all}
 use Rattle.lay_point.specs.declared.point.Point.{Point}
 use Rattle.lay_point.specs.declared.ring.RingFault.{RingFault}
 use Rattle.lay_point.specs.declared.ring.RingFault.TheVariants.{FewPoints, OutOfRange, NoMemory as NoRoom, TooMany as ManyPoints}
-use Rattle.lay_point.specs.Points.{is_in_range}
 use Rattle.lay_point.specs.Rings.{ring_of}
+use Rattle.lay_point.specs.Turns.{within_range}
 use Rattle.cif_grammar.specs.declared.number.TheConstants.{MAX_MAGNITUDE}
 use Rattle.byte_io.specs.Steps.{◌>>=◌}
 use Rattle.cif_grammar.specs.declared.definitions.Scale.{Scale}
@@ -31,14 +31,11 @@ ring_or_none (Err OutOfRange) = Err TooBig
 ring_or_none (Err ManyPoints) = Err TooMany
 ring_or_none (Err NoRoom) = Err NoMemory
 
-abbrev pub point_in_range : Point → Option Point
-point_in_range p = if is_in_range p then Some p else None
-
 -- the points found so far and those of the vertices that follow, where all are in range
 unfoldable pub points_from : Scale → List Point → List Vertex → Option (List Point)
 points_from scale found [] = Some found
 points_from scale found (v ∷ vs) = do
-  p ← point_in_range (scaled_vertex scale v)
+  p ← within_range (scaled_vertex scale v)
   points_from scale (found ++ p ∷ []) vs
 
 abbrev pub ring_of_points : Option (List Point) → Result (Option (List Point)) FaultKind

@@ -20,11 +20,11 @@ ghost use Rattle.cif_read.specs.Boxes.{
   side_x,
   side_y,
 };
-ghost use Rattle.cif_read.specs.Polygons.{point_in_range};
+ghost use Rattle.lay_point.specs.Turns.{within_range};
 
 use crate::fault::FaultKind;
 use crate::polygon::{is_above_written, is_too_big};
-use crate::ratio::{Ratio, doubled, point};
+use crate::ratio::{Ratio, doubled};
 use cif_grammar::{BoxNumbers, Number, Vertex};
 use lay_point::{Point, Ring};
 use std::alloc::Global;
@@ -147,9 +147,9 @@ fn is_whole_side(scale: Ratio, centre: Number, side: u32) -> bool
 #[tactic(auto, using(crate::proofs::BoxLemmas::small_parts))]
 fn low_corner(scale: Ratio, numbers: BoxNumbers) -> Option<Point>
     requires { is_big_box numbers ≡ false }
-    ensures { result ≡ point_in_range (low_corner scale numbers) }
+    ensures { result ≡ within_range (low_corner scale numbers) }
 {
-    point(
+    Point::within_range(
         scale.scaled(low_coordinate(numbers.centre.x, side_x(numbers))),
         scale.scaled(low_coordinate(numbers.centre.y, side_y(numbers))),
     )
@@ -159,9 +159,9 @@ fn low_corner(scale: Ratio, numbers: BoxNumbers) -> Option<Point>
 #[tactic(auto, using(crate::proofs::BoxLemmas::small_parts))]
 fn high_corner(scale: Ratio, numbers: BoxNumbers) -> Option<Point>
     requires { is_big_box numbers ≡ false }
-    ensures { result ≡ point_in_range (high_corner scale numbers) }
+    ensures { result ≡ within_range (high_corner scale numbers) }
 {
-    point(
+    Point::within_range(
         scale.scaled(high_coordinate(numbers.centre.x, side_x(numbers))),
         scale.scaled(high_coordinate(numbers.centre.y, side_y(numbers))),
     )

@@ -1,7 +1,6 @@
 //! Distances in database units, half-hundredths of a micrometre.
 ghost use Rattle.std.specs.Prelude.{◌≡◌, ◌≤◌, ◌*◌, ◌/◌, ◌^◌, ◌*ℤ◌, ◌<ℤ◌, pos, neg_ℤ, unsigned_abs};
 ghost use Rattle.cif_grammar.specs.declared.number.TheConstants.{MAX_MAGNITUDE};
-ghost use Rattle.cif_read.specs.Polygons.{point_in_range};
 ghost use Rattle.cif_read.specs.Scales.{
   IsRatio,
   doubled,
@@ -12,11 +11,10 @@ ghost use Rattle.cif_read.specs.Scales.{
   scaled_vertex,
   value_of,
 };
-ghost use Rattle.lay_point.specs.Points.{is_coordinate};
-ghost use Rattle.std.specs.Prelude.{if◌then◌else◌, Some, None};
+ghost use Rattle.lay_point.specs.Turns.{within_range};
 
 use cif_grammar::{Number, Scale, Vertex};
-use lay_point::{LIMIT, Point};
+use lay_point::Point;
 use std::marker::Model;
 
 /// A scale that a definition may have. Contracts see it as it is written.
@@ -103,9 +101,9 @@ impl Ratio {
     pub fn point(self, vertex: Vertex) -> Option<Point>
         requires x { vertex.x.magnitude ≤ MAX_MAGNITUDE }
         requires y { vertex.y.magnitude ≤ MAX_MAGNITUDE }
-        ensures { result ≡ point_in_range (scaled_vertex self vertex) }
+        ensures { result ≡ within_range (scaled_vertex self vertex) }
     {
-        point(
+        Point::within_range(
             self.scaled(doubled(vertex.x)),
             self.scaled(doubled(vertex.y)),
         )
@@ -129,24 +127,5 @@ fn value_of(number: Number) -> i64
         -magnitude
     } else {
         magnitude
-    }
-}
-
-/// Returns the point at this place, or `None` where it is out of range.
-pub(crate) fn point(x: i128, y: i128) -> Option<Point>
-    ensures { result ≡ point_in_range (record { x = x; y = y }) }
-{
-    let x = coordinate(x)?;
-    let y = coordinate(y)?;
-    Some(Point { x, y })
-}
-
-fn coordinate(place: i128) -> Option<i32>
-    ensures { result ≡ (if is_coordinate place then Some place else None) }
-{
-    if (-i128::from(LIMIT)..=i128::from(LIMIT)).contains(&place) {
-        Some(place as i32)
-    } else {
-        None
     }
 }

@@ -15,7 +15,7 @@ ghost use Rattle.cif_read.specs.Calls.{turn_changed_by, turn_in_range, turn_of};
 use crate::boxes::{is_on_axis, is_zero};
 use crate::fault::FaultKind;
 use crate::polygon::is_too_big;
-use crate::ratio::{Ratio, doubled, point};
+use crate::ratio::{Ratio, doubled};
 use cif_grammar::{Change, Vertex};
 use lay_point::{Point, Quarter, Turn};
 
@@ -122,7 +122,7 @@ fn shifted(scale: Ratio, turn: Turn, vertex: Vertex) -> Option<Turn>
     requires { is_big_change (changes_of.Shift vertex) ≡ false }
     ensures { result ≡ turn_in_range (composed turn (turn_of scale (changes_of.Shift vertex))) }
 {
-    let Some(shift) = point(
+    let Some(shift) = Point::within_range(
         moved(turn.shift.x, scale.scaled(doubled(vertex.x))),
         moved(turn.shift.y, scale.scaled(doubled(vertex.y))),
     ) else {

@@ -1,6 +1,6 @@
 //! Turns: mirrors, quarter turns and shifts of the layout's plane.
 ghost use Rattle.std.specs.Prelude.{◌≡◌, neg_ℤ, ◌+ℤ◌, Some, None, if◌then◌else◌};
-ghost use Rattle.lay_point.specs.Points.{is_coordinate, is_in_range};
+ghost use Rattle.lay_point.specs.Points.{is_in_range};
 ghost use Rattle.lay_point.specs.SameTurn.{quarter_turns};
 ghost use Rattle.lay_point.specs.Turns.{
   composed,
@@ -12,7 +12,7 @@ ghost use Rattle.lay_point.specs.Turns.{
 ghost use Rattle.lay_point.specs.Turns.{quarters, turned, turned_by, unturned, within_range};
 ghost use Rattle.lay_point.specs.TurnMaps.{ComposedMap, IsNearby};
 
-use crate::point::{LIMIT, Point};
+use crate::point::Point;
 
 /// A number of quarter turns anticlockwise round the origin.
 #[derive(Clone, Copy, Debug)]
@@ -168,12 +168,12 @@ impl Turn {
     pub fn apply(self, point: Point) -> Option<Point>
         ensures { result ≡ within_range (turned self point) }
     {
-        in_range(self.turned_x(point), self.turned_y(point))
+        Point::within_range(self.turned_x(point), self.turned_y(point))
     }
 
     /// Returns the x coordinate of where the turn takes the point.
     #[tactic(auto, unfolding(crate::specs::Turns::turned))]
-    fn turned_x(self, point: Point) -> i64
+    fn turned_x(self, point: Point) -> i128
         ensures { result ≡ (turned self point).x }
     {
         let x = mirrored_x(self.mirror, point.x);
@@ -182,7 +182,7 @@ impl Turn {
 
     /// Returns the y coordinate of where the turn takes the point.
     #[tactic(auto, unfolding(crate::specs::Turns::turned))]
-    fn turned_y(self, point: Point) -> i64
+    fn turned_y(self, point: Point) -> i128
         ensures { result ≡ (turned self point).y }
     {
         let x = mirrored_x(self.mirror, point.x);
@@ -220,29 +220,9 @@ fn negative(place: i64) -> i64
 }
 
 /// Returns the place behind a shift.
-fn shifted(place: i64, shift: i32) -> i64
+fn shifted(place: i64, shift: i32) -> i128
     requires { IsNearby place }
     ensures { result ≡ place +ℤ shift }
 {
-    place + i64::from(shift)
-}
-
-/// Returns the point at the place, where it is in range.
-fn in_range(x: i64, y: i64) -> Option<Point>
-    ensures { result ≡ within_range (record { x = x; y = y }) }
-{
-    let x = coordinate(x)?;
-    let y = coordinate(y)?;
-    Some(Point { x, y })
-}
-
-/// Returns the place as a coordinate, where it is one of a layout.
-fn coordinate(place: i64) -> Option<i32>
-    ensures { result ≡ (if is_coordinate place then Some place else None) }
-{
-    if (-i64::from(LIMIT)..=i64::from(LIMIT)).contains(&place) {
-        Some(place as i32)
-    } else {
-        None
-    }
+    i128::from(place) + i128::from(shift)
 }
