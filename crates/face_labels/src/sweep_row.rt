@@ -45,7 +45,7 @@ pub(crate) struct SweepRow {
 }
 
 impl SweepRow {
-    /// Returns the line at the stop of this index, which is the first of its row.
+    /// Returns the row at the stop of this index, its first.
     ///
     /// # Errors
     ///
@@ -82,7 +82,7 @@ impl SweepRow {
         })
     }
 
-    /// Returns the line once the stop is passed, and writes the labels of the edges that begin there.
+    /// Returns the row once the stop is passed, and writes the labels of the edges that begin there.
     ///
     /// # Errors
     ///
@@ -141,7 +141,7 @@ impl SweepRow {
         Group { point, from, to }
     }
 
-    /// Returns the line with the sides of the group's edges, which end at its point, forgotten, and these out of the
+    /// Returns the row with the sides of the group's edges, which end at its point, forgotten, and these out of the
     /// lists of single shapes. Their numbers stay.
     fn without(self, edges: &CleanEdges, reach: &Reach, group: Group) -> SweepRow
         requires sound { AreSound edges.now }
@@ -162,7 +162,7 @@ impl SweepRow {
         }
     }
 
-    /// Returns the line with the edges of the group replaced by those that rise from its point, and writes the
+    /// Returns the row with the edges of the group replaced by those that rise from its point, and writes the
     /// labels of these.
     ///
     /// # Errors

@@ -9,9 +9,16 @@ pub(crate) struct Words {
     pub(crate) cure: &'static str,
 }
 
+/// What is said of a line of a live run in another run's text.
+const LIVE: Words = Words {
+    problem: "a line of a live run, which this isn't",
+    cure: "Run `masklay --live`, which takes such lines; a job has sections, `%session 1` with a step a line.",
+};
+
 /// Returns what is said of a fault at a command that begins with these bytes.
 pub(crate) fn words_of(kind: FaultKind, command: &[u8]) -> Words {
     match kind {
+        FaultKind::Syntax | FaultKind::AfterEnd if command.starts_with(b"%live") => LIVE,
         FaultKind::Syntax => Words {
             problem: "this isn't a command of CIF here",
             cure: form_of(command),

@@ -49,8 +49,8 @@ use telling::{report_error, tell_of_input, tell_of_layout};
 /// `oriented` the layout's shapes are directed before it is written, and where some stay as they were that is
 /// reported to `errors` too. With neither, the input, `named`, `bare` and `boxed` alone decide the output. With `named`
 /// each symbol is written with the names and labels that it had in the job's text, with `bare` the input is a CIF text
-/// and no job, and with `boxed` upright rectangles are written as boxes. With `strict` a refused step tells in the status
-/// alone. The memory of a layout that was written isn't given back, since the program ends there.
+/// and no job, and with `boxed` upright rectangles are written as boxes. Where a step is refused, `strict` decides the
+/// status alone. The memory of a layout that was written isn't given back, since the program ends there.
 pub fn run<I: In, O: Out, E: Out>(
     rt: &(impl Threads + Wait + Sync),
     alloc: Global,
