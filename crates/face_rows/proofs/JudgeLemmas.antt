@@ -97,7 +97,7 @@ by_number f g n (e ∷ es) (o ∷ os) count same =
     (by_number f g (n + 1) es os (omega arith) (λ i less.
     let shifted : (n + 1) + i ≡ n + suc i = omega arith in ap g shifted ∙ same (suc i) (omega arith)))
 
-nat_equality : IsEquality nat_eq
+pub nat_equality : IsEquality nat_eq
 nat_equality = record {
   itself = λ m. (Decides-eqb m m).1 refl;
   apart = λ m n other. by_test (nat_eq m n) other (λ t. (Decides-eqb m n).0 t);

@@ -11,13 +11,14 @@ use Rattle.lay_point.specs.declared.point.Point.{Point}
 use Rattle.lay_point.specs.Parity.{parity, distance_right, is_crossed}
 use Rattle.lay_point.specs.Rising.{IsRising}
 use Rattle.lay_point.proofs.Members.{Has, contains, has}
-use Rattle.lay_point.proofs.Parity.{IsEquality, parity_of_occurrences}
+use Rattle.lay_point.proofs.Parity.{parity_of_occurrences}
 use Rattle.lay_point.proofs.Rising.{IsStrictOrder, before_rest, rising_rest}
 use Rattle.lay_point.proofs.ListLaws.{has_get, has_number, number_has}
 use Rattle.lay_point.proofs.NumberLaws.{numbers_are_strict}
 use Rattle.face_side_laws.proofs.Rows.{IsInRow, crossed_spans, row_distance, row_k, row_place, row_x, row_y, spans_crossed}
 use Rattle.face_rows.proofs.UpwardLemmas.{up_crossed, up_rises}
-use Rattle.face_rows.proofs.JudgeLemmas.{IsBeforeIn, before_rising, before_strict, below_rising, by_number, numbers_from, numbers_have}
+use Rattle.face_rows.proofs.JudgeLemmas.{IsBeforeIn, before_rising, before_strict, below_rising, by_number, nat_equality, numbers_from}
+use Rattle.face_rows.proofs.JudgeLemmas.{numbers_have}
 use Rattle.face_rows.proofs.OwnerLemmas.{parity_any}
 use Rattle.face_rows.proofs.SideLemmas.{crossed_beside}
 use Rattle.snap_chains.specs.declared.owner.Owner.{Owner}
@@ -25,23 +26,12 @@ use Rattle.face_sweep.proofs.OrderLemmas.{crosses}
 use Rattle.face_rows.specs.Labels.{odd_of, owned_items}
 use Rattle.face_rows.specs.Lines.{edge_at, nowhere, owned_item_at, owners_at}
 use Rattle.snap_chains.specs.Rounded.{Owned, is_owner_listed}
-use Rattle.face_rows.specs.Rows.{CrossesRow, IsLeftOf, crosses_row, upward}
+use Rattle.face_rows.specs.Rows.{AreSomeRowEdges, CrossesRow, IsLeftOf, crosses_row, upward}
 use Rattle.face_sweep.specs.Sides.{AreBehind, is_odd_in}
 use Rattle.face_rows.specs.Sound.{AreSound}
 use Rattle.face_sweep.proofs.LabelLemmas.{zip_at}
 use Rattle.face_sweep.specs.Points.{IsPassed, IsStatus}
 use Rattle.face_sweep.proofs.PointLemmas.{beside_own, in_order, span}
-
--- ---- numbers (as in face_rows' JudgeLemmas)
-nat_equality : IsEquality nat_eq
-nat_equality = record {
-  itself = λ m. (Decides-eqb m m).1 refl;
-  apart = λ m n other. by_test (nat_eq m n) other (λ t. (Decides-eqb m n).0 t);
-}
-  where
-    by_test : (b : Bool) {m n : ℕ} → ¬ (m ≡ n) → (b ≡ true → m ≡ n) → b ≡ false
-    by_test true other same = absurd (other (same refl))
-    by_test false other same = refl
 
 -- ---- the edges of a row that are right of a place
 pub record AreRightOf (r : Owned) (row k x y : ℤ) (numbers : List ℕ) : Type 0 where
@@ -124,70 +114,48 @@ before_behind Before laws (x ∷ xs) (suc i) n less h (inl same) b =
 before_behind Before laws (x ∷ xs) (suc i) n less h (inr m) b =
     before_behind Before laws xs i n (omega arith) (rising_rest Before x xs h) m b
 
-pub passed_behind : (r : Owned) (p : Point) (numbers : List ℕ) → AreSound r → (s : IsPassed r p numbers) → AreBehind r s.above
-passed_behind r p numbers sound s i less o =
-    let n = get_or s.above i 0 in
+-- a list of a row's edges that has with each of them those right of it
+closed_behind : (r : Owned) (row : ℤ) (numbers : List ℕ) → AreSound r → AreSomeRowEdges r.0 row numbers
+    → ((m n : ℕ) → Contains numbers m → CrossesRow r.0 row n → IsLeftOf r.0 row m n → Contains numbers n) → AreBehind r numbers
+closed_behind r row numbers sound h closed i less o =
+    let n = get_or numbers i 0 in
     let u = upward (edge_at r n) in
-    let member : Contains s.above n = contains s.above n (has_get s.above i 0 less) in
-    let cross = s.row_above.members n member in
-    let own = span r sound p.y n cross in
-    let rising = before_rising r.0 p.y s.above (λ m h. s.row_above.members m (contains s.above m h)) s.row_above.rising in
+    let member : Contains numbers n = contains numbers n (has_get numbers i 0 less) in
+    let cross = h.members n member in
+    let own = span r sound row n cross in
+    let rising = before_rising r.0 row numbers (λ m there. h.members m (contains numbers m there)) h.rising in
     let next : i + 1 ≡ suc i = omega arith in
-    ap (λ j. is_odd_in r (drop j s.above) o) next
-    ∙ odd_right r sound p.y (row_k u) (row_x p.y u) (row_y p.y u) (row_place p.y u own) (drop (suc i) s.above) (record {
-      rising = rising_after (IsBeforeIn r.0 p.y) s.above i rising;
-      members = λ m h. s.row_above.members m (contains s.above m (after s.above i m h));
-      right = λ m h.
-          let b = behind_before (IsBeforeIn r.0 p.y) (before_strict r.0 p.y) s.above i m less rising h in
+    ap (λ j. is_odd_in r (drop j numbers) o) next
+    ∙ odd_right r sound row (row_k u) (row_x row u) (row_y row u) (row_place row u own) (drop (suc i) numbers) (record {
+      rising = rising_after (IsBeforeIn r.0 row) numbers i rising;
+      members = λ m there. h.members m (contains numbers m (after numbers i m there));
+      right = λ m there.
+          let b = behind_before (IsBeforeIn r.0 row) (before_strict r.0 row) numbers i m less rising there in
           let left = b.left nowhere in
-          omega (arith, linear, left, row_distance p.y u (upward (edge_at r m)));
+          omega (arith, linear, left, row_distance row u (upward (edge_at r m)));
       all = λ m c far.
           let v = upward (edge_at r m) in
-          let left : IsLeftOf r.0 p.y n m = λ d.
-          coe 0 1 (z. (row_k (upward (get_or_default r.0 m nowhere d c.0 z)) *ℤ row_x p.y
+          let left : IsLeftOf r.0 row n m = λ d.
+          coe 0 1 (z. (row_k (upward (get_or_default r.0 m nowhere d c.0 z)) *ℤ row_x row
           (upward (get_or_default r.0 n nowhere d cross.0 z)))
-          <ℤ (row_k (upward (get_or_default r.0 n nowhere d cross.0 z)) *ℤ row_x p.y (upward (get_or_default r.0 m nowhere d c.0 z))))
-          (less_by (row_k v *ℤ row_x p.y u) (row_k u *ℤ row_x p.y v) (distance_right (row_k u) (row_x p.y u) (row_y p.y u) v.0 v.1) far
-          (row_distance p.y u v)) in
-          let from = (in_order r sound p p.y (beside_own r sound p) n m cross c left).from (s.right n member) in
-          before_behind (IsBeforeIn r.0 p.y) (before_strict r.0 p.y) s.above i m less rising (has s.above m (s.all_right m c from))
+          <ℤ (row_k (upward (get_or_default r.0 n nowhere d cross.0 z)) *ℤ row_x row (upward (get_or_default r.0 m nowhere d c.0 z))))
+          (less_by (row_k v *ℤ row_x row u) (row_k u *ℤ row_x row v) (distance_right (row_k u) (row_x row u) (row_y row u) v.0 v.1) far
+          (row_distance row u v)) in
+          before_behind (IsBeforeIn r.0 row) (before_strict r.0 row) numbers i m less rising
+          (has numbers m (closed n m member c left))
           (record { first = cross; second = c; left = left });
     }) o
-    ∙ crossed_beside r sound.even sound.clean sound.lesser o (owned_item_at r n) (zip_at r.0 r.1 n sound.paired cross.0) p.y own
+    ∙ crossed_beside r sound.even sound.clean sound.lesser o (owned_item_at r n) (zip_at r.0 r.1 n sound.paired cross.0) row own
   where
     less_by : (a b d : ℤ) → pos 0 <ℤ d → pos 2 *ℤ d ≡ b -ℤ a → a <ℤ b
     less_by a b d far e = omega (arith, linear)
 
+pub passed_behind : (r : Owned) (p : Point) (numbers : List ℕ) → AreSound r → (s : IsPassed r p numbers) → AreBehind r s.above
+passed_behind r p numbers sound s =
+    closed_behind r p.y s.above sound s.row_above (λ m n there c left.
+    s.all_right n c ((in_order r sound p p.y (beside_own r sound p) m n (s.row_above.members m there) c left).from (s.right m there)))
+
 pub status_behind : (r : Owned) (p : Point) (numbers : List ℕ) → AreSound r → (s : IsStatus r p numbers) → AreBehind r s.above
-status_behind r p numbers sound s i less o =
-    let n = get_or s.above i 0 in
-    let u = upward (edge_at r n) in
-    let member : Contains s.above n = contains s.above n (has_get s.above i 0 less) in
-    let cross = s.row_above.members n member in
-    let own = span r sound p.y n cross in
-    let rising = before_rising r.0 p.y s.above (λ m h. s.row_above.members m (contains s.above m h)) s.row_above.rising in
-    let next : i + 1 ≡ suc i = omega arith in
-    ap (λ j. is_odd_in r (drop j s.above) o) next
-    ∙ odd_right r sound p.y (row_k u) (row_x p.y u) (row_y p.y u) (row_place p.y u own) (drop (suc i) s.above) (record {
-      rising = rising_after (IsBeforeIn r.0 p.y) s.above i rising;
-      members = λ m h. s.row_above.members m (contains s.above m (after s.above i m h));
-      right = λ m h.
-          let b = behind_before (IsBeforeIn r.0 p.y) (before_strict r.0 p.y) s.above i m less rising h in
-          let left = b.left nowhere in
-          omega (arith, linear, left, row_distance p.y u (upward (edge_at r m)));
-      all = λ m c far.
-          let v = upward (edge_at r m) in
-          let left : IsLeftOf r.0 p.y n m = λ d.
-          coe 0 1 (z. (row_k (upward (get_or_default r.0 m nowhere d c.0 z)) *ℤ row_x p.y
-          (upward (get_or_default r.0 n nowhere d cross.0 z)))
-          <ℤ (row_k (upward (get_or_default r.0 n nowhere d cross.0 z)) *ℤ row_x p.y (upward (get_or_default r.0 m nowhere d c.0 z))))
-          (less_by (row_k v *ℤ row_x p.y u) (row_k u *ℤ row_x p.y v) (distance_right (row_k u) (row_x p.y u) (row_y p.y u) v.0 v.1) far
-          (row_distance p.y u v)) in
-          let from = (in_order r sound p p.y (beside_own r sound p) n m cross c left).behind (s.right n member) in
-          before_behind (IsBeforeIn r.0 p.y) (before_strict r.0 p.y) s.above i m less rising (has s.above m (s.all_right m c from))
-          (record { first = cross; second = c; left = left });
-    }) o
-    ∙ crossed_beside r sound.even sound.clean sound.lesser o (owned_item_at r n) (zip_at r.0 r.1 n sound.paired cross.0) p.y own
-  where
-    less_by : (a b d : ℤ) → pos 0 <ℤ d → pos 2 *ℤ d ≡ b -ℤ a → a <ℤ b
-    less_by a b d far e = omega (arith, linear)
+status_behind r p numbers sound s =
+    closed_behind r p.y s.above sound s.row_above (λ m n there c left.
+    s.all_right n c ((in_order r sound p p.y (beside_own r sound p) m n (s.row_above.members m there) c left).behind (s.right m there)))

@@ -1,4 +1,4 @@
--- Commits are refused for the transactions that they name, or since the work isn't awaited.
+-- Commits are refused for the transactions that they name, or since the work isn't the history's own.
 use Rattle.std.proofs.Common.{◌≡◌, ◌≤◌, ◌==◌, ◌+◌, ℕ, Bool, true, false, cond, ◌&&◌, List, [], ◌∷◌, Option, None, Some}
 use Rattle.std.proofs.Common.{Result, Err, option_map, drop, refl, sym, ap, subst, ◌∙◌, arith}
 use Rattle.std.specs.Prelude.{nat_le, not, unwrap_or}
@@ -9,6 +9,7 @@ use Rattle.txn_commands.specs.declared.command.TxnId.{TxnId}
 use Rattle.txn_commands.specs.Compared.{agrees}
 use Rattle.txn_commands.specs.Elements.{Touched}
 use Rattle.txn_commands.specs.Transactions.{Transaction}
+use Rattle.txn_marks.proofs.CompareLemmas.{agrees_on}
 use Rattle.undo_rules.specs.declared.log.Answer.{Answer}
 use Rattle.undo_rules.specs.declared.log.Answer.TheVariants.{Committed, Opened, Redone, Refused, Undone}
 use Rattle.undo_rules.specs.declared.log.BookFault.{BookFault}
@@ -18,13 +19,15 @@ use Rattle.undo_rules.specs.declared.log.Call.{Call}
 use Rattle.undo_rules.specs.declared.log.Call.TheVariants.{Commit, Open, Redo, Undo}
 use Rattle.undo_rules.specs.declared.log.Logged.{Logged}
 use Rattle.undo_rules.specs.Books.{History, Pending, changed_by, changed_in, entry_of, writes_of}
+use Rattle.undo_rules.specs.Laws.{IsOwnWork}
 use Rattle.undo_rules.specs.Links.{Entry}
 use Rattle.undo_rules.specs.Steps.{commit_unless, is_log_full, is_own, is_pending, stale_by, stale_first, state_of, touching}
-use Rattle.undo_laws.specs.Refusing.{CommitIsRefused, CommitsAreRefusedForCause, HasWritten, IsAccepted, IsAwaited}
-use Rattle.undo_laws.specs.Refusing.{IsCause, NamesTxn, IsStaleBy, NamesDiffer}
+use Rattle.undo_laws.specs.Refusing.{CommitIsRefused, CommitsAreRefusedForCause, HasWritten, IsAccepted, IsCause}
+use Rattle.undo_laws.specs.Refusing.{NamesTxn, IsStaleBy, NamesDiffer}
 use Rattle.undo_laws.proofs.FirstLemmas.{first_by, first_found, first_is, told_false, told_not}
 use Rattle.undo_laws.proofs.TouchLemmas.{touched_is, touched_so}
 use Rattle.undo_laws.proofs.EntryLemmas.{entry_held, held_entry}
+use Rattle.undo_laws.proofs.OwedLemmas.{agree_found}
 use Rattle.undo_laws.proofs.UndoLemmas.{not_full, room}
 
 -- ---- what a call changed
@@ -155,10 +158,10 @@ stale_so h txn name named is =
           (λ c. is.first l (name_in name l) (contains is.before l m) c);
     })
 
--- ---- the awaited work
+-- ---- the history's own work
 
 pending_is : (h : History) (txn : Transaction) (o : Option Pending) → (1 ≤ txn.id.session) → (txn.id.session ≤ 64)
-    → (state_of h txn.id.session).opens ≡ txn.id.txn → (state_of h txn.id.session).pending ≡ o → is_pending o txn ≡ true → IsAwaited h txn
+    → (state_of h txn.id.session).opens ≡ txn.id.txn → (state_of h txn.id.session).pending ≡ o → is_pending o txn ≡ true → IsOwnWork h txn
 pending_is h txn None low high last is e = absurd cc
 pending_is h txn (Some waiting) low high last is e =
     let both = and_parts (waiting.place == txn.opened) (agrees waiting.snapshot txn.snapshot txn.footprint) e in
@@ -169,7 +172,7 @@ pending_is h txn (Some waiting) low high last is e =
       waiting = waiting;
       waits = is;
       place = (Decides-eqb waiting.place txn.opened).0 both.0;
-      agree = both.1;
+      agree = agrees_on waiting.snapshot txn.snapshot txn.footprint both.1;
     }
 
 low_is : (n : ℕ) → nat_le 1 n ≡ true → 1 ≤ n
@@ -184,8 +187,8 @@ low_so n h = grind (arith, nat_tests)
 high_so : (n : ℕ) → n ≤ 64 → nat_le n 64 ≡ true
 high_so n h = grind (arith, nat_tests)
 
-awaited_is : (h : History) (txn : Transaction) → is_own h txn ≡ true → IsAwaited h txn
-awaited_is h txn e =
+own_is : (h : History) (txn : Transaction) → is_own h txn ≡ true → IsOwnWork h txn
+own_is h txn e =
     let state = state_of h txn.id.session in
     let both = and_parts (nat_le 1 txn.id.session && nat_le txn.id.session 64)
     ((state.opens == txn.id.txn) && is_pending state.pending txn) e in
@@ -194,15 +197,16 @@ awaited_is h txn e =
     pending_is h txn state.pending (low_is txn.id.session sessions.0) (high_is txn.id.session sessions.1)
     ((Decides-eqb state.opens txn.id.txn).0 work.0) refl work.1
 
-awaited_so : (h : History) (txn : Transaction) → IsAwaited h txn → is_own h txn ≡ true
-awaited_so h txn is =
+own_so : (h : History) (txn : Transaction) → IsOwnWork h txn → is_own h txn ≡ true
+own_so h txn is =
     let state = state_of h txn.id.session in
     let session : (nat_le 1 txn.id.session && nat_le txn.id.session 64) ≡ true =
     and_from (nat_le 1 txn.id.session) (nat_le txn.id.session 64) (low_so txn.id.session is.low) (high_so txn.id.session is.high) in
     let place : (is.waiting.place == txn.opened) ≡ true = (Decides-eqb is.waiting.place txn.opened).1 is.place in
     let pending : is_pending state.pending txn ≡ true =
     ap (λ o. is_pending o txn) is.waits
-    ∙ and_from (is.waiting.place == txn.opened) (agrees is.waiting.snapshot txn.snapshot txn.footprint) place is.agree in
+    ∙ and_from (is.waiting.place == txn.opened) (agrees is.waiting.snapshot txn.snapshot txn.footprint) place
+    (agree_found is.waiting.snapshot txn.snapshot txn.footprint is.agree) in
     let number : (state.opens == txn.id.txn) ≡ true = (Decides-eqb state.opens txn.id.txn).1 is.last in
     and_from (nat_le 1 txn.id.session && nat_le txn.id.session 64) ((state.opens == txn.id.txn) && is_pending state.pending txn) session
     (and_from (state.opens == txn.id.txn) (is_pending state.pending txn) number pending)
@@ -248,19 +252,19 @@ module _ (h : History) (txn : Transaction) (other : TxnId) where
     stale = (
       (λ e.
           let r = by_test (Stale other) e in
-          (room h r.0, awaited_is h txn r.1, stale_is h txn other named r.2)),
+          (room h r.0, own_is h txn r.1, stale_is h txn other named r.2)),
       (λ is.
           ap (λ b. ended h txn b (is_own h txn) stale_now) (not_full h is.0)
-          ∙ ap (λ b. ended h txn false b stale_now) (awaited_so h txn is.1)
+          ∙ ap (λ b. ended h txn false b stale_now) (own_so h txn is.1)
           ∙ ap (λ o. ended h txn false true o) (stale_so h txn other named is.2)),
     );
     foreign = (
       (λ e.
           let r = by_test Foreign e in
-          (room h r.0, told_not (is_own h txn) (awaited_so h txn) r.1)),
+          (room h r.0, told_not (is_own h txn) (own_so h txn) r.1)),
       (λ is.
           ap (λ b. ended h txn b (is_own h txn) stale_now) (not_full h is.0)
-          ∙ ap (λ b. ended h txn false b stale_now) (told_false (is_own h txn) (awaited_is h txn) is.1)),
+          ∙ ap (λ b. ended h txn false b stale_now) (told_false (is_own h txn) (own_is h txn) is.1)),
     );
     not_depends = λ e. by_test (Depends other) e;
     not_moved = λ e. by_test (Moved other) e;

@@ -350,7 +350,7 @@ all_same l m (x ∷ es) agree =
     (agree_same l m x (agree x (or_left (eq_by_cmp element_cmp x x) (has x es) ((eq_by_cmp_equiv elements_total).refl x))))
     ∙ all_same l m es (λ e h. agree e (or_right (eq_by_cmp element_cmp e x) (has e es) h))
 
-agree_found : (l m : Layout) (touched : Touched) → AgreeOn l m touched → agrees l m touched ≡ true
+pub agree_found : (l m : Layout) (touched : Touched) → AgreeOn l m touched → agrees l m touched ≡ true
 unfolding agrees
 agree_found l m touched agree = all_same l m (items touched) (λ e h. agree e (contains-items touched e ∙ h))
 

@@ -1,11 +1,9 @@
 -- Why a book refuses, in words: the transaction that a refusal names, and what it did.
 -- Source: this project's own rule.
-use Rattle.std.specs.Prelude.{◌≡◌, ◌≢◌, ◌⊎◌, ◌↔◌, ℕ, ◌+◌, ◌<◌, ◌≤◌, List, ◌∷◌, ◌++◌, length, drop, map, Bool, true, false, Some, Err}
-use Rattle.std.specs.Prelude.{Contains, ⊤}
+use Rattle.std.specs.Prelude.{◌≡◌, ◌≢◌, ◌⊎◌, ◌↔◌, ℕ, ◌+◌, ◌<◌, List, ◌∷◌, ◌++◌, length, drop, map, Bool, true, false, Err, Contains, ⊤}
 use Rattle.std.specs.FinSet as set
 use Rattle.txn_commands.specs.declared.command.TxnId.{TxnId}
 use Rattle.txn_commands.specs.declared.element.Element.{Element}
-use Rattle.txn_commands.specs.Compared.{agrees}
 use Rattle.txn_commands.specs.Elements.{Touched}
 use Rattle.txn_commands.specs.Meets.{some_meets}
 use Rattle.txn_commands.specs.Records.{Records}
@@ -16,9 +14,10 @@ use Rattle.undo_rules.specs.declared.log.BookFault.TheVariants.{Depends, Foreign
 use Rattle.undo_rules.specs.declared.log.Call.{Call}
 use Rattle.undo_rules.specs.declared.log.Call.TheVariants.{Commit, Open, Redo, Undo}
 use Rattle.undo_rules.specs.declared.log.Logged.{Logged}
-use Rattle.undo_rules.specs.Books.{History, Pending}
+use Rattle.undo_rules.specs.Books.{History}
+use Rattle.undo_rules.specs.Laws.{IsOwnWork}
 use Rattle.undo_rules.specs.Links.{AreNamed, Entry, trace_of}
-use Rattle.undo_rules.specs.Steps.{commit_step, redo_step, state_of, undo_step}
+use Rattle.undo_rules.specs.Steps.{commit_step, redo_step, undo_step}
 
 -- one more call fits into the log
 abbrev pub HasRoom : History → Type 0
@@ -128,17 +127,6 @@ pub record IsStaleBy (h : History) (txn : Transaction) (name : TxnId) : Type 0 w
   pub is_cause : IsCause h txn.footprint cause name
   pub first : (l : Logged) (other : TxnId) → Contains before l → ¬ (IsCause h txn.footprint l other)
 
--- the work is the one that its session opened last and that has not ended; and on what it touched the layout at its open is as
--- its snapshot has it
-pub record IsAwaited (h : History) (txn : Transaction) : Type 0 where
-  pub low : 1 ≤ txn.id.session
-  pub high : txn.id.session ≤ 64
-  pub last : (state_of h txn.id.session).opens ≡ txn.id.txn
-  pub waiting : Pending
-  pub waits : (state_of h txn.id.session).pending ≡ Some waiting
-  pub place : waiting.place ≡ txn.opened
-  pub agree : agrees waiting.snapshot txn.snapshot txn.footprint ≡ true
-
 -- ---- the laws
 
 abbrev pub NamesDiffer : History → Type 0
@@ -163,8 +151,8 @@ abbrev pub RedosAreRefusedForCause : Type 0
 RedosAreRefusedForCause = (h : History) (session : ℕ) (txn other : TxnId) → NamesDiffer h → RedoIsRefused h session txn other
 
 pub record CommitIsRefused (h : History) (txn : Transaction) (other : TxnId) : Type 0 where
-  pub stale : ((commit_step h txn).0 ≡ Err (Stale other)) ↔ (HasRoom h × IsAwaited h txn × IsStaleBy h txn other)
-  pub foreign : ((commit_step h txn).0 ≡ Err Foreign) ↔ (HasRoom h × ¬ (IsAwaited h txn))
+  pub stale : ((commit_step h txn).0 ≡ Err (Stale other)) ↔ (HasRoom h × IsOwnWork h txn × IsStaleBy h txn other)
+  pub foreign : ((commit_step h txn).0 ≡ Err Foreign) ↔ (HasRoom h × ¬ (IsOwnWork h txn))
   pub not_depends : (commit_step h txn).0 ≢ Err (Depends other)
   pub not_moved : (commit_step h txn).0 ≢ Err (Moved other)
 

@@ -36,8 +36,9 @@
 //!   later live one touched what it wrote; Moved where none did, and an earlier one is linked now
 //!   and wasn't seen, or the other way round.
 //! - [`commits_are_refused_for_cause`]: Foreign comes exactly where the work isn't the pending one
-//!   of its session, or the layouts aren't found to agree on what it touched; Stale where neither
-//!   is so, and a call since its open changed a transaction that wrote what the work touched.
+//!   of its session, or the layout at its open and its snapshot don't agree on what it touched;
+//!   Stale where neither is so, and a call since its open changed a transaction that wrote what the
+//!   work touched.
 //!
 //! # Files
 //!

@@ -21,9 +21,9 @@ pub fn redos_are_refused_for_cause()
 {}
 
 /// Where no two transactions have one name and the log has room, a commit is answered Foreign exactly where the
-/// work isn't the pending one of its session, or the layouts aren't found to agree on what it touched; and Stale
-/// where neither is so, and a call since its open committed, undid or redid a transaction that wrote what the work
-/// touched; the first such call tells the name. It is never answered Depends or Moved.
+/// work isn't the pending one of its session, or the layout at its open and its snapshot don't agree on what it
+/// touched; and Stale where neither is so, and a call since its open committed, undid or redid a transaction that
+/// wrote what the work touched; the first such call tells the name. It is never answered Depends or Moved.
 pub fn commits_are_refused_for_cause()
     ensures { CommitsAreRefusedForCause }
 {}
