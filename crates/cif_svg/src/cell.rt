@@ -1,12 +1,11 @@
 //! Which cell is drawn.
 
 use crate::cell_names::CellNames;
-use crate::order::add_called;
+use job_advice::uncalled_symbols;
 use lay_cells::CellId;
 use lay_items::Snapshot;
 use lay_point::NoMemory;
 use std::alloc::Global;
-use std::collections::BTreeSet;
 
 /// Returns the cell of this name; without one the top cell, or, where it is empty, the first symbol that none calls.
 pub(crate) fn cell_named(
@@ -33,20 +32,6 @@ fn symbol_named(snapshot: &Snapshot, names: &CellNames, word: &str) -> Option<u3
 
 /// Returns the first symbol that no symbol calls, or the top cell where there is none.
 fn first_uncalled(alloc: Global, snapshot: &Snapshot) -> Result<CellId, NoMemory> {
-    let called = called_symbols(alloc, snapshot)?;
-    let first = (0..snapshot.cells().len())
-        .filter_map(|place| snapshot.cells().at(place))
-        .find(|number| !called.contains(number));
+    let first = uncalled_symbols(alloc, snapshot)?.first().copied();
     Ok(first.map_or(CellId::Top, CellId::Symbol))
-}
-
-/// Returns the numbers of the symbols that symbols call.
-fn called_symbols(alloc: Global, snapshot: &Snapshot) -> Result<BTreeSet<u32>, NoMemory> {
-    let mut called = BTreeSet::new(alloc);
-    for place in 0..snapshot.cells().len() {
-        if let Some(number) = snapshot.cells().at(place) {
-            add_called(&mut called, snapshot, CellId::Symbol(number))?;
-        }
-    }
-    Ok(called)
 }

@@ -33,7 +33,7 @@ fn cell_at(snapshot: &Snapshot, place: usize) -> CellId {
 }
 
 /// Adds the numbers of the symbols that the cell calls.
-pub(crate) fn add_called(
+fn add_called(
     called: &mut BTreeSet<u32>,
     snapshot: &Snapshot,
     cell: CellId,
