@@ -2,9 +2,9 @@ pub mod BeginLemmas
 pub mod Entering
 pub mod GroupLemmas
 pub mod MarkLemmas
-pub mod MergeLemmas
 pub mod NumberedLemmas
 pub mod Reaching
+pub mod RisingLemmas
 pub mod RunLemmas
 pub mod SiteLemmas
 pub mod SoundLemmas

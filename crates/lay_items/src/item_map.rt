@@ -11,13 +11,13 @@ ghost use Rattle.lay_layouts.specs.Lent.{calls_lent, shapes_among};
 ghost use Rattle.lay_layouts.specs.SameLayout.{items_eq};
 
 use crate::builder::ItemsBuilder;
-use crate::entries::{listed, merged, taken};
+use crate::entries::{listed, taken};
 use crate::iter::{Calls, Entries, Items, Shapes};
 use crate::numbered::NumberedItems;
 use crate::runs::Runs;
 use lay_cells::CellId;
 use lay_layouts::{Item, ItemId, are_same_pages};
-use lay_pages::Pages;
+use lay_pages::{Pages, page};
 use lay_point::{LayerName, NoMemory};
 use std::alloc::Global;
 use std::marker::Model;
@@ -155,7 +155,7 @@ impl ItemMap {
         ensures { IfOk result (λ new. new ≡ put_all self.now writes.now) }
     {
         let entries = listed(alloc, &self.items)?;
-        let entries = merged(alloc, &entries, writes)?;
+        let entries = page::with_all(alloc, &entries, writes)?;
         let new = ItemMap::of(alloc, taken(alloc, entries)?)?;
         Ok(new)
     }

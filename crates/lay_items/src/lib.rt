@@ -42,7 +42,7 @@
 //!
 //! - `version.rt`, `snapshot.rt`, `item_map.rt`: layouts. Writes make anew the pages that they fall
 //!   in, of items, and of marks where runs begin or end by them; more writes than one in thirty-two
-//!   of the items go into them in one pass (`entries.rt`, `specs/Entries.antt`).
+//!   of the items go into them in one pass (`entries.rt`).
 //! - `builder.rt`, `numbered.rt`, `beginnings.rt`: items that come one after another, and their
 //!   marks.
 //! - `iter.rt`: what is lent; `group.rt`, `marks.rt`, `runs.rt`: groups, marks and runs.

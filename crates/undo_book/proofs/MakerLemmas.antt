@@ -40,7 +40,7 @@ use Rattle.lay_layouts.specs.declared.item.Item.{Item as Piece}
 use Rattle.lay_layouts.specs.declared.slot.CellSlot.{CellSlot}
 use Rattle.lay_layouts.specs.Ids.{id_cmp}
 use Rattle.lay_layouts.specs.SameLayout.{id_eq, id_eq-Decides}
-use Rattle.lay_items.proofs.MergeLemmas.{rising_sorted}
+use Rattle.lay_items.proofs.RisingLemmas.{rising_sorted}
 use Rattle.txn_commands.specs.declared.command.TxnId.{TxnId}
 use Rattle.txn_commands.specs.declared.element.Element.{Element}
 use Rattle.txn_commands.specs.declared.element.Element.TheVariants.{Calls, Cell, Content, Item, Layer, Uses}

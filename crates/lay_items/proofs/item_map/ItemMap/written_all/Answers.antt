@@ -5,7 +5,7 @@ use Rattle.lay_layouts.specs.IdOrder.{ids_exact, ids_total}
 use Rattle.lay_layouts.specs.Ids.{id_cmp}
 use Rattle.lay_layouts.specs.Layout.{map_of_items, put_all}
 use Rattle.lay_layouts.proofs.PutLemmas.{put_all-written}
-use Rattle.lay_items.proofs.MergeLemmas.{rising_sorted}
+use Rattle.lay_items.proofs.RisingLemmas.{rising_sorted}
 use Rattle.lay_items.proofs.item_map.ItemMap.written_all.Goals as goal
 
 pub with_rising-requires : goal.with_rising-requires
