@@ -53,5 +53,4 @@ mod update;
 pub use builder::PagesBuilder;
 pub use entries::Entries;
 pub use keys::{PageKey, PageValue};
-pub use page::around;
 pub use pages::Pages;

@@ -57,7 +57,7 @@ fn search<K: PageKey, V>(page: &[(K, V)], key: K) -> Result<usize, usize>
 /// # Cost
 ///
 /// Comparisons in proportion to the logarithm of their number.
-pub fn around<K: PageKey, V>(page: &[(K, V)], key: K) -> (&[(K, V)], &[(K, V)])
+pub(crate) fn around<K: PageKey, V>(page: &[(K, V)], key: K) -> (&[(K, V)], &[(K, V)])
     requires { IsStrictlySortedBy K.cmp (keys_of page.now) }
     ensures before { result.0.now ≡ lower K.cmp key page.now }
     ensures after { result.1.now ≡ higher K.cmp key page.now }
