@@ -1,4 +1,4 @@
-use Rattle.std.proofs.Common.{◌≡◌, ◌∙◌, ◌<◌, List, ℕ, Some, ap, append-nil, arith, filter, length, not, rules, slice_get, take_all}
+use Rattle.std.proofs.Common.{◌≡◌, ◌∙◌, Some, ap, append-nil, arith, filter, not, rules, slice_get, take_all}
 use Rattle.std.proofs.lemmas.List.Elements.{filter_more}
 use Rattle.std.proofs.lemmas.Option.{get_or_from_slice_get, slice_get_within}
 use Rattle.job_advice.specs.Uncalled.{is_called}
