@@ -1,5 +1,5 @@
 -- What the layout of a head tells of its lines.
-use Rattle.std.proofs.Common.{◌≡◌, ℕ, ◌+◌, ◌⊎◌, List, Bool, true, Result, Ok, Err, inl, inr, refl, sym, ap, ◌∙◌, subst}
+use Rattle.std.proofs.Common.{◌≡◌, ℕ, ◌⊎◌, List, true, Result, Ok, Err, inl, inr, refl, sym, ap, ◌∙◌, subst}
 use Rattle.std.specs.Prelude.{Vec}
 use Rattle.std.specs.declared.alloc.Global.{Global}
 use Rattle.cif_read.specs.declared.fault.CifFault.{CifFault}
@@ -16,12 +16,10 @@ use Rattle.live_run.specs.declared.showing.Showing.{Showing}
 use Rattle.live_run.specs.declared.showing.View.{View}
 use Rattle.live_run.specs.Live.{LiveRun, before_first_line}
 use Rattle.live_run.specs.Shown.{view_of}
-use Rattle.live_run.specs.declared.live.Live.{Live}
 use Rattle.live_run.specs.declared.base.HeadFault.{HeadFault}
 use Rattle.live_run.specs.declared.base.HeadFault.TheVariants.{Cif as CifHead, Job as JobHead, Memory as MemoryHead}
-use Rattle.live_run.specs.declared.course.Course.TheVariants.{Steps}
 use Rattle.live_run.specs.Cif.{cif_from}
-use Rattle.live_run.specs.Course.{BeginsRun, HeadTo, IsBaseFrom, IsBaseOf, RefusesHead, end_of_head, head_cif, head_kind}
+use Rattle.live_run.specs.Course.{BeginsRun, IsBaseFrom, IsBaseOf, RefusesHead, end_of_head, head_cif, head_kind}
 
 -- a fault of a CIF text is a head's, or out of memory
 of_kind : (fault : CifFault) (kind : FaultKind) → (head_kind fault kind ≡ MemoryHead) ⊎ (head_kind fault kind ≡ CifHead fault)

@@ -3,19 +3,7 @@ use Rattle.std.proofs.Common.{◌≡◌, ℕ, ◌+◌, List, [], ◌∷◌, ◌+
 use Rattle.std.proofs.Common.{append_assoc, append-nil}
 use Rattle.std.specs.List.{concat}
 use Rattle.live_run.specs.Cif.{before, behind, is_live}
-use Rattle.live_run.specs.Journal.{
-  KeptText,
-  KeptMore,
-  KeptAll,
-  KeptPart,
-  as_line,
-  kept_since,
-  kept_head,
-  kept_in,
-  kept_line,
-  kept_lines,
-  first_live,
-}
+use Rattle.live_run.specs.Journal.{KeptText, KeptMore, KeptAll, KeptPart, kept_since, kept_head, kept_in, kept_line, kept_lines, first_live}
 use Rattle.live_run.proofs.CifLemmas.{before_at, behind_at, goes_on}
 
 -- ---- entries

@@ -1,8 +1,6 @@
 -- Where the lines of a live run lead.
 use Rattle.std.proofs.Common.{◌≡◌, ℕ, List, [], ◌∷◌, ◌++◌, map, refl, sym, ◌∙◌, append-nil}
 use Rattle.std.proofs.lemmas.List.{append_assoc}
-use Rattle.lay_layouts.specs.Layout.{Layout}
-use Rattle.session_steps.specs.declared.Reply.{Reply}
 use Rattle.session_steps.specs.declared.Step.{Step as StepOf}
 use Rattle.session_core.specs.Machine.{after_steps, step_outcome}
 use Rattle.job_text.specs.declared.live.LiveLine.{LiveLine}
@@ -10,7 +8,7 @@ use Rattle.job_text.specs.declared.live.LiveLine.TheVariants.{Ask, Blank, Unknow
 use Rattle.job_text.specs.Live.{live_line}
 use Rattle.job_text.specs.Words.{words_of}
 use Rattle.live_run.specs.Live.{LiveRun, after_line, after_lines, after_step, answered, before_first_line, one_more}
-use Rattle.live_run.specs.Laws.{LedBy, LinesAreSteps, steps_in, steps_of}
+use Rattle.live_run.specs.Laws.{LinesAreSteps, steps_in, steps_of}
 
 -- from the first run the steps led to the second
 record Leads (run : LiveRun) (steps : List (ℕ × StepOf)) (run' : LiveRun) : Type 0 where

@@ -23,7 +23,7 @@ use Rattle.std.proofs.Common.{
 }
 use Rattle.std.proofs.Common.{append_assoc, append-nil, slice_index, slice_set}
 use Rattle.std.specs.Prelude.{filter, is_some}
-use Rattle.std.specs.List.{AllByRecursion, concat, list_all}
+use Rattle.std.specs.List.{concat, list_all}
 use Rattle.session_steps.specs.declared.Step.{Step as StepOf}
 use Rattle.session_core.specs.Machine.{State, step_outcome}
 use Rattle.job_text.specs.declared.live.LiveLine.{LiveLine}
@@ -31,21 +31,9 @@ use Rattle.job_text.specs.declared.live.LiveLine.TheVariants.{Ask, Blank, Unknow
 use Rattle.job_text.specs.Job.{job_of}
 use Rattle.job_text.specs.Live.{live_line}
 use Rattle.job_text.specs.Words.{words_of}
-use Rattle.byte_io.specs.Lines.{lines}
 use Rattle.live_run.specs.Cif.{before, behind, cif_from, cif_of, is_ended, is_live, whole}
 use Rattle.live_run.specs.Feed.{is_not_newline}
-use Rattle.live_run.specs.Journal.{
-  KeptText,
-  bytes_of,
-  as_line,
-  entries_by,
-  kept_since,
-  kept_in,
-  kept_line,
-  kept_lines,
-  keeping_of,
-  first_live,
-}
+use Rattle.live_run.specs.Journal.{KeptText, bytes_of, as_line, entries_by, kept_since, kept_in, kept_lines, keeping_of, first_live}
 use Rattle.live_run.specs.Laws.{AreWholeLines, IsWholeLine, JournalsResume, SameSteps}
 use Rattle.live_run.specs.Live.{LiveRun, after_line, after_lines, after_step, answered, one_more}
 use Rattle.live_run.specs.Said.{IsFirstRun}

@@ -8,7 +8,6 @@ use Rattle.byte_io.specs.Device.{WroteAll, WrotePrefix}
 use Rattle.byte_io.proofs.BufferedLemmas.{WroteAll-then, WrotePrefix-behind}
 use Rattle.cif_read.specs.declared.fault.CifFault.{CifFault}
 use Rattle.cif_read.specs.Meaning.{IsMeaning}
-use Rattle.byte_io.specs.Lines.{lines}
 use Rattle.job_text.specs.declared.job.JobFault.TheVariants.{Line}
 use Rattle.job_text.specs.Job.{job_of}
 use Rattle.live_run.specs.declared.showing.Showing.{Showing}
@@ -16,7 +15,7 @@ use Rattle.live_run.specs.Live.{LiveRun, after_line, after_lines, has_refused}
 use Rattle.live_run.specs.declared.course.Course.{Course}
 use Rattle.live_run.specs.declared.ending.LiveEnd.{LiveEnd}
 use Rattle.live_run.specs.declared.ending.LiveEnd.TheVariants.{Cif, Device, Done, Job, Journal, Memory}
-use Rattle.live_run.specs.Cif.{behind, cif_from, cif_of, is_live, whole}
+use Rattle.live_run.specs.Cif.{behind, cif_from, cif_of, is_live}
 use Rattle.live_run.specs.Said.{
   AreAnswered,
   HaveRefused,

@@ -1,5 +1,5 @@
 -- The lines of a live run lead where their steps lead as a job.
-use Rattle.std.specs.Prelude.{◌≡◌, ℕ, List, [], ◌∷◌, ◌++◌, map, true, false, None, Option, Some, if◌then◌else◌}
+use Rattle.std.specs.Prelude.{◌≡◌, ℕ, List, [], ◌∷◌, ◌++◌, map, true, false, None, Some, if◌then◌else◌}
 use Rattle.std.specs.List.{AllByRecursion, list_all}
 use Rattle.lay_layouts.specs.Layout.{Layout}
 use Rattle.undo_book.specs.declared.book.TheConstants.{MAX_CALLS}

@@ -12,7 +12,7 @@ use Rattle.session_steps.specs.Turns.{in_turn}
 use Rattle.session_core.specs.Machine.{State, after_steps, step_outcome}
 use Rattle.job_text.specs.Order.{is_logged, order_behind}
 use Rattle.session_laws.specs.Rearranged as rearranged
-use Rattle.session_laws.specs.Rearranged.{HasMemory, HasSession, LeadsTo, dealt_out, dealt_scripts, replies_by_session}
+use Rattle.session_laws.specs.Rearranged.{LeadsTo, dealt_out, replies_by_session}
 use Rattle.session_laws.proofs.Events.{Event, Events}
 use Rattle.session_laws.proofs.Swaps.{Swapped, all_same, behind, both, goes_on, none, own, own_same, swap}
 use Rattle.session_laws.proofs.Pulling.{callers, names, turned}

@@ -16,7 +16,7 @@ use Rattle.session_steps.specs.declared.Step.{Step}
 use Rattle.session_steps.specs.declared.Step.TheVariants.{Cancel, Commit, Do, Open, Redo, Undo}
 use Rattle.session_steps.specs.declared.StepFault.TheVariants.{AlreadyOpen, Book, NoSession, NotOpen}
 use Rattle.session_core.specs.Machine as machine
-use Rattle.session_core.specs.Machine.{IsNotForeign, State, command_reply, is_session, open_of, step_in, step_outcome, with_history}
+use Rattle.session_core.specs.Machine.{State, command_reply, is_session, open_of, step_in, step_outcome, with_history}
 use Rattle.session_core.specs.Machine.{with_work}
 
 -- a step's reply, and the history and the open transaction that it leaves

@@ -1,5 +1,5 @@
 -- The printed order leads to the same, of steps and of jobs.
-use Rattle.std.proofs.Common.{◌≡◌, ℕ, ◌≤◌, suc, Bool, true, false, ◌||◌, List, [], ◌∷◌, ◌++◌, length, get_or, map, refl, ap, sym, subst}
+use Rattle.std.proofs.Common.{◌≡◌, ℕ, ◌≤◌, suc, Bool, true, false, List, [], ◌∷◌, ◌++◌, length, get_or, map, refl, ap, sym, subst}
 use Rattle.std.proofs.Common.{◌∙◌, arith, replicate, None, nat_eq}
 use Rattle.std.proofs.lemmas.Bool.{or_from}
 use Rattle.std.specs.Prelude.{IsPermutation}
@@ -17,7 +17,7 @@ use Rattle.job_text.specs.Job.{order_fits}
 use Rattle.job_text.specs.Order.{is_logged, order_of}
 use Rattle.session_laws.specs.Rearranged as rearranged
 use Rattle.session_laws.specs.Rearranged.{HasMemory, HasSession, JobsAnswerAlike, LeadsTo}
-use Rattle.session_laws.specs.Rearranged.{StepsAnswerAlike, StepsComeInTurn, dealt_out, dealt_scripts, replies_by_session}
+use Rattle.session_laws.specs.Rearranged.{StepsAnswerAlike, StepsComeInTurn, dealt_scripts, replies_by_session}
 use Rattle.session_laws.proofs.Events.{Event, Events}
 use Rattle.session_laws.proofs.Swaps.{Swapped, own, own_before}
 use Rattle.session_laws.proofs.Pulling.{names, turned, turns, log_leads}

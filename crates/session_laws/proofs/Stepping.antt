@@ -14,8 +14,8 @@ use Rattle.undo_rules.specs.declared.log.BookFault.TheVariants.{Foreign, LogFull
 use Rattle.undo_rules.specs.declared.log.Call.TheVariants as call
 use Rattle.undo_rules.specs.Books.{History, IsHistory}
 use Rattle.undo_rules.specs.Steps as book
-use Rattle.undo_rules.specs.Steps.{after_redo, after_undo, commit_step, commit_unless, is_log_full, is_own, logged}
-use Rattle.undo_rules.specs.Steps.{open_step, opening}
+use Rattle.undo_rules.specs.Steps.{after_redo, after_undo, commit_unless, is_log_full, is_own, logged}
+use Rattle.undo_rules.specs.Steps.{opening}
 use Rattle.undo_rules.specs.Steps.{redo_refusal, redo_step, stale_by, state_of, undo_refusal, undo_step, unless}
 use Rattle.undo_rules.proofs.CommitLaws.{commit_keeps}
 use Rattle.undo_rules.proofs.OpenLaws.{open_keeps, refused_keeps, stale_keeps}

@@ -1,17 +1,13 @@
 -- Where the steps of sessions lead.
-use Rattle.std.specs.Prelude.{◌≡◌, ℕ, ◌≤◌, true, List, ◌∷◌, ◌++◌, Some, Ok}
-use Rattle.lay_cells.specs.declared.cell_id.CellId.{CellId}
+use Rattle.std.specs.Prelude.{◌≡◌, ℕ, ◌≤◌, true, List, ◌∷◌, ◌++◌, Ok}
 use Rattle.cif_read.specs.Contents.{Contents}
 use Rattle.cif_read.specs.Meaning.{IsMeaning}
 use Rattle.cif_layout.specs.FromCif.{layout_of}
 use Rattle.lay_layouts.specs.Layout.{Layout}
 use Rattle.lay_layouts.specs.Sound.{IsSound}
-use Rattle.face_rows.specs.declared.op.Op.{Op}
 use Rattle.txn_commands.specs.declared.command.Command.{Command}
-use Rattle.txn_commands.specs.declared.command.Command.TheVariants.{Bool as Combine}
 use Rattle.txn_commands.specs.declared.command.TxnId.{TxnId}
 use Rattle.undo_rules.specs.Books.{History, IsHistory}
-use Rattle.undo_rules.specs.Histories.{commands_at}
 use Rattle.undo_rules.specs.Links.{Entry}
 use Rattle.undo_laws.specs.Staying.{Drawing, HasCommand, HasNoItemOf, Setting, Stays, drawing_command}
 use Rattle.session_steps.specs.declared.Reply.{Reply}
