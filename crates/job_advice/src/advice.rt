@@ -46,7 +46,7 @@ pub(crate) struct Told {
 /// A pass over the text before the fault.
 pub fn of_text_fault(alloc: Global, text: &[u8], fault: CifFault) -> Result<Vec<u8>, NoMemory> {
     let offset = (fault.offset as usize).min(text.len());
-    let words = words_of(fault.kind, &text[offset..]);
+    let words = words_of(fault.kind, &text[..offset], &text[offset..]);
     lines_of(alloc, text, offset, words.problem.as_bytes(), words.cure)
 }
 
@@ -62,7 +62,7 @@ pub fn of_text_fault(alloc: Global, text: &[u8], fault: CifFault) -> Result<Vec<
 pub fn of_cif_fault(alloc: Global, job: &[u8], fault: CifFault) -> Result<Vec<u8>, NoMemory> {
     let start = text_start(job);
     let offset = start.saturating_add(fault.offset as usize).min(job.len());
-    let words = words_of(fault.kind, &job[offset..]);
+    let words = words_of(fault.kind, &job[..offset], &job[offset..]);
     lines_of_text(
         alloc,
         job,

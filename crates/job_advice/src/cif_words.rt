@@ -9,16 +9,16 @@ pub(crate) struct Words {
     pub(crate) cure: &'static str,
 }
 
-/// What is said of a line of a live run in another run's text.
+/// What is said of a step after a line that begins with `%live`, in a text that isn't a live run's.
 const LIVE: Words = Words {
-    problem: "a line of a live run, which this isn't",
+    problem: "this comes after a line `%live`, and this isn't a live run",
     cure: "Run `masklay --live`, which takes such lines; a job has sections, `%session 1` with a step a line.",
 };
 
-/// Returns what is said of a fault at a command that begins with these bytes.
-pub(crate) fn words_of(kind: FaultKind, command: &[u8]) -> Words {
+/// Returns what is said of a fault, after this part of the input, at a command that begins with these bytes.
+pub(crate) fn words_of(kind: FaultKind, before: &[u8], command: &[u8]) -> Words {
     match kind {
-        FaultKind::Syntax | FaultKind::AfterEnd if command.starts_with(b"%live") => LIVE,
+        FaultKind::Syntax | FaultKind::NoEnd | FaultKind::AfterEnd if has_live_line(before) => LIVE,
         FaultKind::Syntax => Words {
             problem: "this isn't a command of CIF here",
             cure: form_of(command),
@@ -29,6 +29,16 @@ pub(crate) fn words_of(kind: FaultKind, command: &[u8]) -> Words {
             words_of_numbers(kind),
         _ => words_of_names(kind),
     }
+}
+
+/// Returns whether a line begins as the one does at which the steps of a live run begin.
+fn has_live_line(lines: &[u8]) -> bool {
+    for line in lines.split(|byte| *byte == b'\n') {
+        if line.starts_with(b"%live") {
+            return true;
+        }
+    }
+    false
 }
 
 /// What is said of the text as a whole.
