@@ -1,5 +1,5 @@
 -- What a sort by the key, and then by the point, makes of the centres that a segment meets.
-use Rattle.std.proofs.Common.{◌≡◌, ◌↔◌, inl, inr, List, [], true, refl, ap, ◌∙◌, subst, Contains}
+use Rattle.std.proofs.Common.{◌≡◌, ◌↔◌, ◌⊎◌, ⊎_elim, inl, inr, List, [], true, refl, ap, ◌∙◌, subst, arith, Contains}
 use Rattle.std.specs.declared.cmp.Ordering.{Ordering}
 use Rattle.std.specs.declared.cmp.Ordering.TheVariants.{Less, Equal, Greater}
 use Rattle.std.specs.Ordering.{int_cmp, on, then_cmp, ordering_then, eq_by_cmp, is_eq}
@@ -48,6 +48,18 @@ along_order s = record {
   ties = ties s;
   less = λ p q h. below_by_key s p q (int_cmp (key s p) (key s q)) refl h;
 }
+
+-- what is met where nothing was before
+pub met_alone : (s : Segment) (hot begun points : List Point) → begun ≡ []
+    → ((c : Point) → Contains points c ↔ (Contains begun c ⊎ (Contains hot c × Meets s.a s.b c)))
+    → (c : Point) → Contains points c ↔ (Contains hot c × Meets s.a s.b c)
+met_alone s hot begun points none met c = (
+  (λ m. ⊎_elim
+      (λ was. let old : Contains [] c = subst (λ l. Contains l c) none was in absurd (omega (arith, old.1)))
+      (λ (h : Contains hot c × Meets s.a s.b c). h)
+      ((met c).0 m)),
+  (λ h. (met c).1 (inr h)),
+)
 
 -- the hot centres that are met, sorted, each once
 pub chain_of : (s : Segment) (hot points moved chain : List Point)

@@ -1,9 +1,9 @@
 //! Hot centres, by number and by search.
-ghost use Rattle.std.specs.Prelude.{◌≡◌, ◌<◌, ℕ, Contains, IfOk, length};
+ghost use Rattle.std.specs.Prelude.{◌≡◌, ◌<◌, ℕ, Contains, IfOk, OnOk, length};
 ghost use Rattle.snap_edge_laws.specs.Chains.{IsChain};
 ghost use Rattle.snap_slabs.specs.Runs.{centres_at};
 
-use crate::chains::chain_in;
+use crate::chains::put_chain;
 use lay_point::{NoMemory, Point};
 use snap_pixels::{HotSet, Segment};
 use snap_slabs::{Finder, Numbers};
@@ -49,32 +49,55 @@ impl<'h> Centres<'h> {
         Ok(Centres { numbers, finder })
     }
 
-    /// Returns the numbers of the chain of a segment, in the order in which it goes. The searches begin at `from` and
-    /// `to`, the numbers of its ends; any will do.
+    /// Puts the numbers of the chain of a segment, in the order in which it goes, in place of those of the chain before.
+    /// The searches begin at `from` and `to`, the numbers of its ends; any will do.
     ///
     /// # Errors
     ///
-    /// `NoMemory`, if an allocation fails.
+    /// `AllocError`, if an allocation fails.
     ///
     /// # Cost
     ///
     /// That of the chain, and for each of its centres a search from the number of the one before: a few steps
     /// where neighbours in the chain are neighbours in the order of points, and at most twice the logarithm of
     /// the number of centres.
-    pub fn chain_numbers(
+    pub fn put_chain(
         &self,
-        alloc: Global,
+        room: &mut ChainRoom,
         segment: &Segment,
         from: u32,
         to: u32,
-    ) -> Result<Vec<u32>, NoMemory>
-        ensures inside { IfOk result (λ numbers. (k : ℕ) → Contains numbers.items k → k < length self.now) }
-        ensures chain { IfOk result (λ numbers. IsChain (Contains self.now) segment.now (centres_at self.now numbers.items)) }
+    ) -> Result<(), AllocError>
+        ensures inside { OnOk result ((k : ℕ) → Contains room.new.numbers.items k → k < length self.now) }
+        ensures chain { OnOk result (IsChain (Contains self.now) segment.now (centres_at self.now room.new.numbers.items)) }
     {
         let near = (from.min(to) as usize, from.max(to) as usize);
-        let points = chain_in(alloc, segment, &self.finder, near)?;
-        let numbers = numbers_of(alloc, &self.numbers, points.as_slice(), from)?;
-        Ok(numbers)
+        put_chain(&mut room.points, segment, &self.finder, near)?;
+        put_numbers(
+            &mut room.numbers,
+            &self.numbers,
+            room.points.as_slice(),
+            from,
+        )?;
+        Ok(())
+    }
+}
+
+/// Room for the chain of one slanted side after another, so that none needs an allocation of its own.
+#[derive(Debug, Drop)]
+pub(crate) struct ChainRoom {
+    points: Vec<Point>,
+    /// The numbers of the chain's centres.
+    pub numbers: Vec<u32>,
+}
+
+impl ChainRoom {
+    /// Returns room that grows as it is needed.
+    pub fn new(alloc: Global) -> ChainRoom {
+        ChainRoom {
+            points: Vec::new(alloc),
+            numbers: Vec::new(alloc),
+        }
     }
 }
 
@@ -97,23 +120,23 @@ fn is_slanted(segment: &Segment) -> bool {
     segment.a().x != segment.b().x && segment.a().y != segment.b().y
 }
 
-/// Returns the numbers of these centres. Each search begins at the number of the centre before, and the first one at
-/// `from`; any will do.
-fn numbers_of(
-    alloc: Global,
+/// Puts the numbers of these centres in place of those that are there. Each search begins at the number of the centre
+/// before, and the first one at `from`; any will do.
+fn put_numbers(
+    found: &mut Vec<u32>,
     numbers: &Numbers,
     points: &[Point],
     from: u32,
-) -> Result<Vec<u32>, AllocError>
+) -> Result<(), AllocError>
     requires { (c : Point) → Contains points.now c → Contains numbers.now c }
-    ensures centres { IfOk result (λ found. centres_at numbers.now found.items ≡ points.now) }
-    ensures inside { IfOk result (λ found. (k : ℕ) → Contains found.items k → k < length numbers.now) }
+    ensures centres { OnOk result (centres_at numbers.now found.new.items ≡ points.now) }
+    ensures inside { OnOk result ((k : ℕ) → Contains found.new.items k → k < length numbers.now) }
 {
-    let mut found = Vec::with_capacity(alloc, points.len())?;
+    found.clear();
     let mut near = from;
     for point in points {
         near = numbers.number_near(*point, near);
         found.push(near)?;
     }
-    Ok(found)
+    Ok(())
 }

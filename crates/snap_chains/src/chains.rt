@@ -1,5 +1,5 @@
 //! Chains of segments: the hot centres that they meet, in the order in which they go.
-ghost use Rattle.std.specs.Prelude.{◌≡◌, ◌^◌, neg_ℤ, pos, ◌-ℤ◌, ◌*ℤ◌, ◌≤ℤ◌, Contains, IfOk};
+ghost use Rattle.std.specs.Prelude.{◌≡◌, ◌^◌, neg_ℤ, pos, ◌-ℤ◌, ◌*ℤ◌, ◌≤ℤ◌, Contains, IfOk, OnOk};
 ghost use Rattle.std.specs.Int.{int_signum};
 ghost use Rattle.lay_point.specs.declared.point.Point.{Point};
 ghost use Rattle.snap_edge_laws.specs.Edges.{key};
@@ -8,7 +8,7 @@ ghost use Rattle.snap_edge_laws.specs.Chains.{IsChain};
 use lay_point::{NoMemory, Point};
 use snap_pixels::{HotSet, Segment};
 use snap_slabs::Finder;
-use std::alloc::Global;
+use std::alloc::{AllocError, Global};
 use std::cmp::Ordering;
 
 /// Returns the hot centres whose pixels the segment meets, in the order in which it goes.
@@ -26,24 +26,26 @@ pub fn chain(alloc: Global, segment: &Segment, hot: &HotSet) -> Result<Vec<Point
     ensures { IfOk result (λ points. IsChain (Contains hot.now) segment.now points.items) }
 {
     let finder = Finder::plain(alloc, hot);
-    let points = chain_in(alloc, segment, &finder, (0, 0))?;
+    let mut points = Vec::new(alloc);
+    put_chain(&mut points, segment, &finder, (0, 0))?;
     Ok(points)
 }
 
-/// Returns the chain of the segment, as `chain` does, of the centres of the finder. `near` are indices of centres near
-/// the segment's ends, the lesser first, where the search begins; any will do.
-pub(crate) fn chain_in(
-    alloc: Global,
+/// Puts the chain of the segment, as `chain` returns it, of the centres of the finder in place of the points. `near`
+/// are indices of centres near the segment's ends, the lesser first, where the search begins; any will do.
+pub(crate) fn put_chain(
+    points: &mut Vec<Point>,
     segment: &Segment,
     finder: &Finder,
     near: (usize, usize),
-) -> Result<Vec<Point>, NoMemory>
-    ensures { IfOk result (λ points. IsChain (Contains finder.now) segment.now points.items) }
+) -> Result<(), AllocError>
+    ensures { OnOk result (IsChain (Contains finder.now) segment.now points.new.items) }
 {
-    let mut points = finder.met(alloc, segment, near)?;
+    points.clear();
+    finder.add_met(points, segment, near)?;
     points.sort_unstable_by_key(|point: &Point| (key(segment, *point), *point));
     points.dedup();
-    Ok(points)
+    Ok(())
 }
 
 /// Returns how far `centre` lies along the direction of the segment, of which only the signs count.

@@ -12,7 +12,7 @@ ghost use Rattle.snap_chains.specs.OwnedRings.{HaveSides};
 ghost use Rattle.snap_chains.specs.Passes.{ArePassesOf, ArePathPasses, IsSideAdded, passes_by};
 ghost use Rattle.snap_chains.specs.Sides.{segment_ends};
 
-use crate::centres::Centres;
+use crate::centres::{Centres, ChainRoom};
 use crate::owned::OwnedRing;
 use crate::owner::Owner;
 use crate::pass::{Pass, pass_between};
@@ -93,8 +93,9 @@ fn passes_of(
     ensures { IfOk result (λ passes. ArePassesOf _segments.now centres.now rings.now passes.items) }
 {
     let mut passes = Vec::new(alloc);
+    let mut room = ChainRoom::new(alloc);
     for ring in rings {
-        add_ring(alloc, &mut passes, ring, _segments, centres)?;
+        add_ring(alloc, &mut passes, &mut room, ring, _segments, centres)?;
     }
     Ok(passes)
 }
@@ -103,6 +104,7 @@ fn passes_of(
 fn add_ring(
     alloc: Global,
     passes: &mut Vec<Pass>,
+    room: &mut ChainRoom,
     ring: &OwnedRing,
     _segments: &[Segment],
     centres: &Centres,
@@ -121,7 +123,7 @@ fn add_ring(
     let mut from = centres.numbers.number(*first);
     for side in sides.as_slice() {
         let to = centres.numbers.number(side.b());
-        add_side(alloc, passes, centres, side, from, to, ring.owner)?;
+        add_side(passes, room, centres, side, from, to, ring.owner)?;
         from = to;
     }
     Ok(())
@@ -129,8 +131,8 @@ fn add_ring(
 
 /// Adds the passes of a side that goes from the centre of one number to that of another.
 fn add_side(
-    alloc: Global,
     passes: &mut Vec<Pass>,
+    room: &mut ChainRoom,
     centres: &Centres,
     side: &Segment,
     from: u32,
@@ -151,8 +153,8 @@ fn add_side(
         extend_by_numbers(passes, row, owner)?;
         return Ok(());
     }
-    let slanted = centres.chain_numbers(alloc, side, from, to)?;
-    extend_by_numbers(passes, slanted.as_slice(), owner)?;
+    centres.put_chain(room, side, from, to)?;
+    extend_by_numbers(passes, room.numbers.as_slice(), owner)?;
     Ok(())
 }
 

@@ -200,12 +200,13 @@ columns_have_all cs a b (from, to) held c (k, lt, at) met =
     )
 
 -- of the centres in the columns of a segment those that are met
-pub met_in_columns : (hot columns met : List Point) (a b : Point) → ((c : Point) → Contains columns c → Contains hot c)
+pub met_in_columns : (hot columns old new : List Point) (a b : Point) → ((c : Point) → Contains columns c → Contains hot c)
     → ((c : Point) → Contains hot c → Meets a b c → Contains columns c)
-    → ((c : Point) → Contains met c ↔ (Contains columns c × Meets a b c)) → (c : Point) → Contains met c ↔ (Contains hot c × Meets a b c)
-met_in_columns hot columns met a b inside all are_met c = (
-  (λ m. let there = (are_met c).0 m in (inside c there.0, there.1)),
-  (λ h. (are_met c).1 (all c h.0 h.1, h.1)),
+    → ((c : Point) → Contains new c ↔ (Contains old c ⊎ (Contains columns c × Meets a b c)))
+    → (c : Point) → Contains new c ↔ (Contains old c ⊎ (Contains hot c × Meets a b c))
+met_in_columns hot columns old new a b inside all are_met c = (
+  (λ m. ⊎_elim (λ (was : Contains old c). inl was) (λ there. inr (inside c there.0, there.1)) ((are_met c).0 m)),
+  (λ h. ⊎_elim (λ (was : Contains old c). (are_met c).1 (inl was)) (λ m. (are_met c).1 (inr (all c m.0 m.1, m.1))) h),
 )
 
 -- ---- on the other side of the diagonal

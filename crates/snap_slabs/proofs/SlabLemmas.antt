@@ -1,6 +1,6 @@
 -- Slabs: the one of the quotient of an index holds the centre at that index.
-use Rattle.std.proofs.Common.{◌≡◌, ◌↔◌, ⊎_elim, ℕ, zero, suc, ◌+◌, ◌-◌, ◌*◌, ◌/◌, ◌%◌, ◌<◌, ◌≤◌}
-use Rattle.std.proofs.Common.{List, [], ◌∷◌, ◌++◌, length, map, get_or, take, drop, refl, sym, ap, ◌∙◌, subst, arith, Contains}
+use Rattle.std.proofs.Common.{◌≡◌, ◌↔◌, ◌⊎◌, ⊎_elim, inl, inr, ℕ, zero, suc, ◌+◌, ◌-◌, ◌*◌, ◌/◌, ◌%◌, ◌<◌, ◌≤◌}
+use Rattle.std.proofs.Common.{List, [], ◌∷◌, ◌++◌, length, get_or, take, drop, refl, sym, ap, ◌∙◌, subst, arith, Contains}
 use Rattle.std.specs.Prelude.{flat_map, slice_range}
 use Rattle.std.proofs.lemmas.Nat.{div-add-mod', mod_below}
 use Rattle.std.proofs.lemmas.List.{drop-drop, get_or-drop, get_or-take, length-drop, length-take, take_more}
@@ -9,7 +9,6 @@ use native.Mathlib.Nat.{suc-mul}
 use Rattle.lay_point.specs.declared.point.Point.{Point}
 use Rattle.snap_pixels.specs.Order.{AreTransposed, transposed}
 use Rattle.snap_pixels.specs.Segments.{Meets}
-use Rattle.snap_pixels.proofs.OrderLemmas.{turned_members}
 use Rattle.snap_pixels.proofs.StripLemmas.{div_mono}
 use Rattle.lay_point.proofs.Members.{Has, has, contains, has-append}
 use Rattle.lay_point.proofs.ListLaws.{get_or-slice_range}
@@ -17,6 +16,7 @@ use Rattle.snap_slabs.specs.Columns.{HoldMet}
 use Rattle.snap_slabs.specs.Slabs.{AreSlabs, HoldPlaces, points_in}
 use Rattle.snap_slabs.proofs.ColumnLemmas.{meets_turned}
 use Rattle.snap_slabs.proofs.OwnedLemmas.{Contains-flat_map}
+use Rattle.snap_slabs.proofs.Sorted.{ArePassed}
 
 -- ---- cutting
 -- the centres behind so many slabs
@@ -121,26 +121,30 @@ module _ (size : ℕ) (cs : List Point) (slabs : List (List Point)) (are : AreSl
       (omega (arith, few, length-range slabs first end inside)) (sym here) refl (transposed c) held
 
 -- ---- what is met in slabs
--- what is met in one more list
-pub gathered : {A B : Type 0} (f : A → List B) (P : B → Type 0) (xs : List A) (i : ℕ) (x : A) (part near old found new : List B)
+-- what passes in one more list
+pub gathered : {A B : Type 0} (f : A → List B) (P Q : B → Type 0) (g : B → B) (xs : List A) (i : ℕ) (x : A) (part near old new : List B)
     → i < length xs
     → x ≡ get_or xs i x → part ≡ f x → ((c : B) → Contains near c → Contains part c) → ((c : B) → Contains part c → P c → Contains near c)
-    → ((c : B) → Contains old c ↔ (Contains (flat_map f (take i xs)) c × P c)) → ((c : B) → Contains found c ↔ (Contains near c × P c))
-    → new ≡ old ++ found → (c : B) → Contains new c ↔ (Contains (flat_map f (take (i + 1) xs)) c × P c)
-gathered {A = A} {B = B} f P xs i x part near old found new lt at is inside all so_far are e c = (
+    → ArePassed P Q g (flat_map f (take i xs)) old → ArePassed P (Contains old) g near new
+    → ArePassed P Q g (flat_map f (take (i + 1) xs)) new
+gathered {A = A} {B = B} f P Q g xs i x part near old new lt at is inside all so_far added c = (
   (λ m. ⊎_elim
-      (λ was. let h = (so_far c).0 was in (subst (λ l. Contains l c) (sym more) (Contains-append_left _ _ c h.0), h.1))
-      (λ now.
-      let h = (are c).0 now in (
-        subst (λ l. Contains l c) (sym more) (Contains-append_right (flat_map f (take i xs)) (f x) c
-            (subst (λ l. Contains l c) is (inside c h.0))),
+      (λ was. ⊎_elim (λ (begun : Q c). inl begun)
+      (λ h. inr (subst (λ l. Contains l (g c)) (sym more) (Contains-append_left _ _ (g c) h.0), h.1))
+      ((so_far c).0 was))
+      (λ h. inr (
+        subst (λ l. Contains l (g c)) (sym more) (Contains-append_right (flat_map f (take i xs)) (f x) (g c)
+            (subst (λ l. Contains l (g c)) is (inside (g c) h.0))),
         h.1,
       ))
-      (Contains-append_cases old found c (subst (λ l. Contains l c) e m))),
-  (λ h. subst (λ l. Contains l c) (sym e) (⊎_elim
-      (λ was. Contains-append_left old found c ((so_far c).1 (was, h.1)))
-      (λ here. Contains-append_right old found c ((are c).1 (all c (subst (λ l. Contains l c) (sym is) here) h.1, h.1)))
-      (Contains-append_cases (flat_map f (take i xs)) (f x) c (subst (λ l. Contains l c) more h.0)))),
+      ((added c).0 m)),
+  (λ h. ⊎_elim
+      (λ (begun : Q c). (added c).1 (inl ((so_far c).1 (inl begun))))
+      (λ m. ⊎_elim
+      (λ was. (added c).1 (inl ((so_far c).1 (inr (was, m.1)))))
+      (λ here. (added c).1 (inr (all (g c) (subst (λ l. Contains l (g c)) (sym is) here) m.1, m.1)))
+      (Contains-append_cases (flat_map f (take i xs)) (f x) (g c) (subst (λ l. Contains l (g c)) more m.0)))
+      h),
 ) where
   flat_push : (ys : List A) (y : A) → flat_map f (ys ++ y ∷ []) ≡ flat_map f ys ++ f y
   flat_push [] y = nothing (f y)
@@ -158,18 +162,22 @@ gathered {A = A} {B = B} f P xs i x part near old found new lt at is inside all 
   more = ap (flat_map f) (take_more xs i x lt ∙ ap (λ v. take i xs ++ v ∷ []) (sym at)) ∙ flat_push (take i xs) x
 
 -- of the centres in slabs those that are met, turned back
-pub met_in_slabs : (hot met found : List Point) (slabs : List (List Point)) (a b : Point) (from to : ℕ) → HoldMet hot a b (from, to)
+pub met_in_slabs : (hot old new : List Point) (slabs : List (List Point)) (a b : Point) (from to : ℕ) → HoldMet hot a b (from, to)
     → ((c : Point) → Contains (points_in slabs) c → Contains hot (transposed c)) → HoldPlaces hot from to slabs
-    → ((c : Point) → Contains met c ↔ (Contains (points_in slabs) c × Meets (transposed a) (transposed b) c))
-    → found ≡ map transposed met → (c : Point) → Contains found c ↔ (Contains hot c × Meets a b c)
-met_in_slabs hot met found slabs a b from to held inside holds are_met is c = (
-  (λ m.
-      let there = (are_met (transposed c)).0 ((turned_members met (transposed c)).0 (subst (λ l. Contains l c) is m)) in
-      (inside (transposed c) there.0, meets_turned (transposed a) (transposed b) (transposed c) there.1)),
-  (λ h.
-      let across = meets_turned a b c h.1 in
-      let k = h.0.0 in
-      let place = held k c h.0.1 h.0.2 h.1 in
-      let there = holds k c place.0 place.1 h.0.1 h.0.2 in
-      subst (λ l. Contains l c) (sym is) ((turned_members met (transposed c)).1 ((are_met (transposed c)).1 (there, across)))),
+    → ArePassed (Meets (transposed a) (transposed b)) (Contains old) transposed (points_in slabs) new
+    → (c : Point) → Contains new c ↔ (Contains old c ⊎ (Contains hot c × Meets a b c))
+met_in_slabs hot old new slabs a b from to held inside holds are_met c = (
+  (λ m. ⊎_elim
+      (λ (was : Contains old c). inl was)
+      (λ there. inr (inside (transposed c) there.0, meets_turned (transposed a) (transposed b) (transposed c) there.1))
+      ((are_met c).0 m)),
+  (λ h. ⊎_elim
+      (λ (was : Contains old c). (are_met c).1 (inl was))
+      (λ m.
+      let across = meets_turned a b c m.1 in
+      let k = m.0.0 in
+      let place = held k c m.0.1 m.0.2 m.1 in
+      let there = holds k c place.0 place.1 m.0.1 m.0.2 in
+      (are_met c).1 (inr (there, across)))
+      h),
 )

@@ -1,6 +1,6 @@
--- Sorted lists without repeats rise; and lists that gather what passes a test.
-use Rattle.std.proofs.Common.{◌≡◌, ◌↔◌, ⊎_elim, ℕ, ◌+◌, ◌<◌, List, [], ◌∷◌, ◌++◌, length, get_or, take, Bool, true, false, cond}
-use Rattle.std.proofs.Common.{refl, sym, ap, ◌∙◌, subst, Contains, Decides}
+-- Sorted lists without repeats rise; and lists to which what passes a test is added.
+use Rattle.std.proofs.Common.{◌≡◌, ◌↔◌, ◌⊎◌, ⊎_elim, inl, inr, ℕ, ◌+◌, ◌<◌, List, [], ◌∷◌, ◌++◌, length, get_or, take, Bool, true, false, cond}
+use Rattle.std.proofs.Common.{refl, sym, ap, ◌∙◌, subst, arith, Contains, Decides}
 use Rattle.std.specs.declared.cmp.Ordering.{Ordering}
 use Rattle.std.specs.declared.cmp.Ordering.TheVariants.{Less}
 use Rattle.std.specs.Ordering.{eq_by_cmp}
@@ -22,35 +22,54 @@ rising_from_strict cmp Before less [] h = tt
 rising_from_strict cmp Before less (x ∷ []) h = tt
 rising_from_strict cmp Before less (x ∷ y ∷ ys) h = (less x y h.0.0, rising_from_strict cmp Before less (y ∷ ys) h.1)
 
+-- beside what holds already, the elements that pass: f, which is its own inverse, tells as what each is kept
+abbrev pub ArePassed : {A : Type 0} (P Q : A → Type 0) (f : A → A) (xs kept : List A) → Type 0
+ArePassed {A} P Q f xs kept = (c : A) → Contains kept c ↔ (Q c ⊎ (Contains xs (f c) × P (f c)))
+
+pub none_passed : {A : Type 0} (P : A → Type 0) (f : A → A) (kept : List A) → ArePassed P (Contains kept) f [] kept
+none_passed P f kept c = (inl, λ h. ⊎_elim (λ (was : Contains kept c). was) (λ more. absurd (omega (arith, more.0.1))) h)
+
 -- one more element, which is kept where it passes
-module _ {A : Type 0} (P : A → Type 0) (xs : List A) (i : ℕ) (x : A) (old : List A) (lt : i < length xs) (at : get_or xs i x ≡ x)
-    (so_far : (c : A) → Contains old c ↔ (Contains (take i xs) c × P c)) where
+module _ {A : Type 0} (P Q : A → Type 0) (f : A → A) (twice : (c : A) → f (f c) ≡ c) (xs : List A) (i : ℕ) (x : A) (old : List A)
+    (lt : i < length xs) (at : get_or xs i x ≡ x) (so_far : ArePassed P Q f (take i xs) old) where
   further : take (i + 1) xs ≡ take i xs ++ x ∷ []
   further = take_more xs i x lt ∙ ap (λ u. take i xs ++ u ∷ []) at
 
-  pub kept_more : (passes : Bool) (new : List A) → Decides passes (P x) → new ≡ cond passes (old ++ x ∷ []) old
-      → (c : A) → Contains new c ↔ (Contains (take (i + 1) xs) c × P c)
+  last : (c : A) → x ≡ f c → Contains (take (i + 1) xs) (f c)
+  last c same = subst (λ l. Contains l (f c)) (sym further) (subst (Contains (take i xs ++ x ∷ [])) same (Contains-push (take i xs) x))
+
+  was_in : (c : A) → Contains (take i xs) (f c) → Contains (take (i + 1) xs) (f c)
+  was_in c m = subst (λ l. Contains l (f c)) (sym further) (Contains-append_left (take i xs) (x ∷ []) (f c) m)
+
+  widened : (c : A) → Q c ⊎ (Contains (take i xs) (f c) × P (f c)) → Q c ⊎ (Contains (take (i + 1) xs) (f c) × P (f c))
+  widened c h = ⊎_elim (λ (was : Q c). inl was) (λ m. inr (was_in c m.0, m.1)) h
+
+  pub kept_more : (passes : Bool) (new : List A) → Decides passes (P x) → new ≡ cond passes (old ++ f x ∷ []) old
+      → ArePassed P Q f (take (i + 1) xs) new
   kept_more true new d e c = (
     (λ w. ⊎_elim
-        (λ was. let m = (so_far c).0 was in (subst (λ l. Contains l c) (sym further) (Contains-append_left _ _ c m.0), m.1))
-        (λ same. (
-          subst (λ l. Contains l c) (sym further) (subst (Contains (take i xs ++ x ∷ [])) same (Contains-push _ x)),
-          subst P same
-              (d.0 refl),
-        ))
-        (Contains-push_cases old x c (subst (λ l. Contains l c) e w))),
-    (λ m. subst (λ l. Contains l c) (sym e) (⊎_elim
-        (λ was. Contains-append_left _ _ c ((so_far c).1 (was, m.1)))
-        (λ same. subst (Contains (old ++ x ∷ [])) same (Contains-push old x))
-        (Contains-push_cases (take i xs) x c (subst (λ l. Contains l c) further m.0)))),
+        (λ was. widened c ((so_far c).0 was))
+        (λ same.
+        let here : x ≡ f c = sym (twice x) ∙ ap f same in
+        inr (last c here, subst P here (d.0 refl)))
+        (Contains-push_cases old (f x) c (subst (λ l. Contains l c) e w))),
+    (λ h. subst (λ l. Contains l c) (sym e) (⊎_elim
+        (λ (was : Q c). Contains-append_left old (f x ∷ []) c ((so_far c).1 (inl was)))
+        (λ m. ⊎_elim
+        (λ before. Contains-append_left old (f x ∷ []) c ((so_far c).1 (inr (before, m.1))))
+        (λ same. subst (Contains (old ++ f x ∷ [])) (ap f same ∙ twice c) (Contains-push old (f x)))
+        (Contains-push_cases (take i xs) x (f c) (subst (λ l. Contains l (f c)) further m.0)))
+        h)),
   )
   kept_more false new d e c = (
-    (λ w. let m = (so_far c).0 (subst (λ l. Contains l c) e w) in
-        (subst (λ l. Contains l c) (sym further) (Contains-append_left _ _ c m.0), m.1)),
-    (λ m. subst (λ l. Contains l c) (sym e) (⊎_elim
-        (λ was. (so_far c).1 (was, m.1))
+    (λ w. widened c ((so_far c).0 (subst (λ l. Contains l c) e w))),
+    (λ h. subst (λ l. Contains l c) (sym e) (⊎_elim
+        (λ (was : Q c). (so_far c).1 (inl was))
+        (λ m. ⊎_elim
+        (λ before. (so_far c).1 (inr (before, m.1)))
         (λ same. absurd (false≢true (d.1 (subst P (sym same) m.1))))
-        (Contains-push_cases (take i xs) x c (subst (λ l. Contains l c) further m.0)))),
+        (Contains-push_cases (take i xs) x (f c) (subst (λ l. Contains l (f c)) further m.0)))
+        h)),
   )
 
 -- an order that `sort` and `dedup` go by, and the same order as a relation

@@ -1,16 +1,16 @@
 //! The search of the hot centres that a segment meets.
-ghost use Rattle.std.specs.Prelude.{◌≡◌, ◌↔◌, ◌<◌, ◌≤◌, Contains, IfOk, IfSome, length};
+ghost use Rattle.std.specs.Prelude.{◌≡◌, ◌↔◌, ◌⊎◌, ◌<◌, ◌≤◌, Contains, IfOk, IfSome, OnOk, length};
 ghost use Rattle.lay_point.specs.declared.point.Point.{Point};
 ghost use Rattle.snap_pixels.specs.Order.{transposed};
 ghost use Rattle.snap_pixels.specs.Segments.{Meets};
 ghost use Rattle.snap_slabs.specs.Slabs.{HoldPlaces, points_in};
 
-use crate::candidates::met;
+use crate::candidates::add_met;
 use crate::columns_of::places_near;
 use crate::slab::Slab;
-use crate::slabs::{met_in_each, slabs_of};
+use crate::slabs::{add_met_in_each, slabs_of};
 use lay_point::Point;
-use snap_pixels::{HotSet, Segment, turned_all};
+use snap_pixels::{HotSet, Segment};
 use std::alloc::{AllocError, Global};
 use std::marker::Model;
 
@@ -72,8 +72,8 @@ impl<'h> Finder<'h> {
         Ok(Finder { hot, size, slabs })
     }
 
-    /// Returns the hot centres whose pixels the segment meets. Asked are those in its columns where they are
-    /// few or there are no slabs, else those in its rows of the slabs that it goes through.
+    /// Adds the hot centres whose pixels the segment meets. Asked are those in its columns where they are few or
+    /// there are no slabs, else those in its rows of the slabs that it goes through.
     ///
     /// `near` are indices of centres near the segment's ends, the lesser first, where the search begins; any will
     /// do.
@@ -86,23 +86,22 @@ impl<'h> Finder<'h> {
     ///
     /// Each centre is asked that is in the rows which the segment reaches in a slab, or in the segment's
     /// columns. The columns are found in a few steps where `near` are near, and in a search by halving elsewhere.
-    pub fn met(
+    pub fn add_met(
         &self,
-        alloc: Global,
+        points: &mut Vec<Point>,
         segment: &Segment,
         near: (usize, usize),
-    ) -> Result<Vec<Point>, AllocError>
-        ensures { IfOk result (λ points. (c : Point) → Contains points.items c
-            ↔ (Contains self.now c × Meets segment.now.a segment.now.b c)) }
+    ) -> Result<(), AllocError>
+        ensures { OnOk result ((c : Point) → Contains points.new.items c
+            ↔ (Contains points.old.items c ⊎ (Contains self.now c × Meets segment.now.a segment.now.b c))) }
     {
         let (from, to) = places_near(segment, self.hot.centres(), near);
         if let Some(slabs) = self.slabs_between(from, to) {
-            let in_slabs = met_in_each(alloc, &segment.turned(), slabs)?;
-            let points = turned_all(alloc, in_slabs.as_slice())?;
-            return Ok(points);
+            add_met_in_each(points, &segment.turned(), slabs)?;
+            return Ok(());
         }
-        let points = met(alloc, segment, &self.hot.centres()[from..to])?;
-        Ok(points)
+        add_met(points, segment, &self.hot.centres()[from..to])?;
+        Ok(())
     }
 
     /// Returns the slabs of the centres from the index `from` on, before `to`, where it takes less time to

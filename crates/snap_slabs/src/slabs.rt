@@ -1,10 +1,11 @@
 //! Slabs: hot centres in parts that are neighbours in the order of points, each in the order of its rows.
-ghost use Rattle.std.specs.Prelude.{◌↔◌, ◌<◌, Contains, IfOk};
+ghost use Rattle.std.specs.Prelude.{◌↔◌, ◌⊎◌, ◌<◌, Contains, IfOk, OnOk};
 ghost use Rattle.lay_point.specs.declared.point.Point.{Point};
+ghost use Rattle.snap_pixels.specs.Order.{transposed};
 ghost use Rattle.snap_pixels.specs.Segments.{Meets};
 ghost use Rattle.snap_slabs.specs.Slabs.{AreSlabs, points_in};
 
-use crate::candidates::met;
+use crate::candidates::add_met_turned;
 use crate::slab::Slab;
 use lay_point::Point;
 use snap_pixels::Segment;
@@ -31,19 +32,17 @@ pub(crate) fn slabs_of(
     Ok(slabs)
 }
 
-/// Returns the points of the slabs whose pixels the segment meets.
-pub(crate) fn met_in_each(
-    alloc: Global,
+/// Adds the points of the slabs whose pixels the segment meets, with x and y exchanged.
+pub(crate) fn add_met_in_each(
+    points: &mut Vec<Point>,
     segment: &Segment,
     slabs: &[Slab],
-) -> Result<Vec<Point>, AllocError>
-    ensures { IfOk result (λ points. (c : Point) → Contains points.items c
-        ↔ (Contains (points_in slabs.now) c × Meets segment.now.a segment.now.b c)) }
+) -> Result<(), AllocError>
+    ensures { OnOk result ((c : Point) → Contains points.new.items c ↔ (Contains points.old.items c
+        ⊎ (Contains (points_in slabs.now) (transposed c) × Meets segment.now.a segment.now.b (transposed c)))) }
 {
-    let mut points = Vec::new(alloc);
     for slab in slabs {
-        let found = met(alloc, segment, slab.near(segment))?;
-        points.extend_from_slice(found.as_slice())?;
+        add_met_turned(points, segment, slab.near(segment))?;
     }
-    Ok(points)
+    Ok(())
 }

@@ -55,5 +55,5 @@ returns c =
     let s = c.args.side.now in
     let added = c.in_ok-extend_by_numbers-2.ensures
     ∙ ap (λ l. c.args.passes.now.items ++ passes_by c.args.owner l) c.as_slice.ensures.value in
-    side_added c.args.centres.now c.requires.rising s c.args.owner c.in_ok-slanted.slanted.items _ _
-    c.in_ok-slanted.ensures.inside (inl c.in_ok-slanted.ensures.chain) added
+    side_added c.args.centres.now c.requires.rising s c.args.owner c.put_chain.new.room.numbers.items _ _
+    c.in_ok-put_chain.ensures.inside (inl c.in_ok-put_chain.ensures.chain) added

@@ -5,7 +5,7 @@ use Rattle.std.proofs.lemmas.List.Elements.{Contains-get_or, Contains-push_cases
 use Rattle.std.proofs.lemmas.Option.{get_or_from_slice_get, slice_get_within}
 use Rattle.snap_slabs.specs.Runs.{centre_at, centres_at, no_centre}
 use Rattle.snap_chains.proofs.OwnerLemmas.{map-push}
-use Rattle.snap_chains.proofs.centres.numbers_of.Goals as goal
+use Rattle.snap_chains.proofs.centres.put_numbers.Goals as goal
 
 pub number_near-near-requires : goal.number_near-near-requires
 number_near-near-requires c =

@@ -1,6 +1,6 @@
 use Rattle.std.proofs.Common.{◌≡◌, ◌<◌, ℕ, Contains, length, take}
 use Rattle.snap_slabs.specs.Runs.{centres_at}
-use Rattle.snap_chains.proofs.centres.numbers_of.Given as goal
+use Rattle.snap_chains.proofs.centres.put_numbers.Given as goal
 
 -- the numbers so far
 abbrev pub invariant-loop-point : goal.invariant-loop-point

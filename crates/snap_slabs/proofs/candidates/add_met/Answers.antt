@@ -1,10 +1,13 @@
-use Rattle.std.proofs.Common.{◌≡◌, ◌↔◌, ◌++◌, [], ◌∷◌, cond, rules, ap, subst, get_or, pos, Contains}
+use Rattle.std.proofs.Common.{◌≡◌, ◌++◌, [], ◌∷◌, cond, refl, rules, ap, subst, get_or, pos, Contains}
 use Rattle.std.proofs.lemmas.List.{take_all, get_or_default}
 use Rattle.lay_point.specs.declared.point.Point.{Point}
 use Rattle.snap_pixels.specs.Segments.{Meets}
-use Rattle.snap_slabs.proofs.Sorted.{kept_more}
-use Rattle.snap_slabs.proofs.candidates.met.Goals as goal
-use Rattle.snap_slabs.proofs.candidates.met.Goals.{then-meets+in_ok-push, else-meets}
+use Rattle.snap_slabs.proofs.Sorted.{ArePassed, kept_more, none_passed}
+use Rattle.snap_slabs.proofs.candidates.add_met.Goals as goal
+use Rattle.snap_slabs.proofs.candidates.add_met.Goals.{then-meets+in_ok-push, else-meets}
+
+pub loop-centre-init : goal.loop-centre-init
+loop-centre-init c = none_passed (Meets c.args.segment.now.a c.args.segment.now.b) (λ p. p) c.args.points.now.items
 
 pub loop-centre-preserved : goal.loop-centre-preserved
 loop-centre-preserved c =
@@ -17,11 +20,12 @@ loop-centre-preserved c =
       | then-meets+in_ok-push w ↦ rw w.if-meets.true (search rules)
       | else-meets w ↦ rw w.if-meets.false (ap (λ v. v.items) w.points-is)
     ] in
-    kept_more (Meets s.a s.b) cs i (get_or cs i origin) old c.loop-centre-test.true (get_or_default cs i _ origin c.loop-centre-test.true)
+    kept_more (Meets s.a s.b) (Contains c.args.points.now.items) (λ p. p) (λ p. refl) cs i (get_or cs i origin) old c.loop-centre-test.true
+    (get_or_default cs i _ origin c.loop-centre-test.true)
     c.loop-centre.invariant c.meets.result c.if-meets.points.items c.meets.ensures more
 
 pub returns : goal.returns
 returns c =
     let all = take_all c.loop-centre.centre-index c.args.centres.now (search rules) in
-    subst (λ l. (p : Point) → Contains c.loop-centre.points.items p ↔ (Contains l p × Meets c.args.segment.now.a c.args.segment.now.b p))
+    subst (λ l. ArePassed (Meets c.args.segment.now.a c.args.segment.now.b) (Contains c.args.points.now.items) (λ p. p) l c.loop-centre.points.items)
     all c.loop-centre.invariant
