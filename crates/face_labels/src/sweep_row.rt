@@ -136,7 +136,9 @@ impl SweepRow {
         ensures point { result.point ≡ point }
         ensures group { IsEndedGroup edges.now point self.now.numbers.items result.from result.to }
     {
-        let from = place_of_point(edges, self.numbers.as_slice(), point, self.place);
+        // The next stop is mostly at the edge left of the one before.
+        let near = self.place.saturating_sub(1);
+        let from = place_of_point(edges, self.numbers.as_slice(), point, near);
         let to = group_end(edges, self.numbers.as_slice(), point, from);
         Group { point, from, to }
     }

@@ -58,9 +58,7 @@ impl<'h> Centres<'h> {
     ///
     /// # Cost
     ///
-    /// That of the chain, and for each of its centres a search from the number of the one before: a few steps
-    /// where neighbours in the chain are neighbours in the order of points, and at most twice the logarithm of
-    /// the number of centres.
+    /// That of the chain, and for each of its centres that of its number.
     pub fn put_chain(
         &self,
         room: &mut ChainRoom,
@@ -73,12 +71,7 @@ impl<'h> Centres<'h> {
     {
         let near = (from.min(to) as usize, from.max(to) as usize);
         put_chain(&mut room.points, segment, &self.finder, near)?;
-        put_numbers(
-            &mut room.numbers,
-            &self.numbers,
-            room.points.as_slice(),
-            from,
-        )?;
+        put_numbers(&mut room.numbers, &self.numbers, room.points.as_slice())?;
         Ok(())
     }
 }
@@ -120,23 +113,15 @@ fn is_slanted(segment: &Segment) -> bool {
     segment.a().x != segment.b().x && segment.a().y != segment.b().y
 }
 
-/// Puts the numbers of these centres in place of those that are there. Each search begins at the number of the centre
-/// before, and the first one at `from`; any will do.
-fn put_numbers(
-    found: &mut Vec<u32>,
-    numbers: &Numbers,
-    points: &[Point],
-    from: u32,
-) -> Result<(), AllocError>
+/// Puts the numbers of these centres in place of those that are there.
+fn put_numbers(found: &mut Vec<u32>, numbers: &Numbers, points: &[Point]) -> Result<(), AllocError>
     requires { (c : Point) → Contains points.now c → Contains numbers.now c }
     ensures centres { OnOk result (centres_at numbers.now found.new.items ≡ points.now) }
     ensures inside { OnOk result ((k : ℕ) → Contains found.new.items k → k < length numbers.now) }
 {
     found.clear();
-    let mut near = from;
     for point in points {
-        near = numbers.number_near(*point, near);
-        found.push(near)?;
+        found.push(numbers.number(*point))?;
     }
     Ok(())
 }

@@ -12,13 +12,12 @@ ghost use Rattle.std.specs.Prelude.{
   map,
   ℕ,
 };
-ghost use Rattle.std.specs.List.Sorted.{IsStrictlyIncreasing};
 ghost use Rattle.lay_point.specs.declared.point.Point.{Point};
 ghost use Rattle.snap_pixels.specs.Gathered.{centre_of};
 ghost use Rattle.snap_pixels.specs.Order.{ArePointsRising};
 
 use crate::coordinates::{coordinate_from, from_least};
-use crate::sorting::sort_in_threads;
+use crate::sorting::{sort_in_threads, sort_once};
 use lay_point::Point;
 use std::alloc::{AllocError, Global};
 use std::marker::Model;
@@ -152,15 +151,6 @@ fn push_key(keys: &mut Vec<u64>, key: u64) -> Result<(), AllocError>
     }
     keys.push(key)?;
     Ok(())
-}
-
-/// Sorts the keys and removes repeats.
-fn sort_once(keys: &mut Vec<u64>)
-    ensures increasing { IsStrictlyIncreasing keys.new.items }
-    ensures members { (k : ℕ) → Contains keys.new.items k ↔ Contains keys.old.items k }
-{
-    keys.sort_unstable();
-    keys.dedup();
 }
 
 /// Returns the centres of the keys.

@@ -90,4 +90,4 @@ pub use meeting::meets;
 pub use partition::partition_from;
 pub use search::{hot, hot_plain};
 pub use segment::Segment;
-pub use sorting::{sort_in_threads, sorted_in_threads};
+pub use sorting::{sort_in_threads, sort_once, sorted_in_threads};

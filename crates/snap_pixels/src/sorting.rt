@@ -1,6 +1,6 @@
-//! Sorts in threads.
-ghost use Rattle.std.specs.Prelude.{◌≡◌, length};
-ghost use Rattle.std.specs.List.Sorted.{IsPermutation, IsSorted};
+//! Sorts in threads, and of numbers.
+ghost use Rattle.std.specs.Prelude.{◌≡◌, ◌↔◌, ℕ, Contains, length};
+ghost use Rattle.std.specs.List.Sorted.{IsPermutation, IsSorted, IsStrictlyIncreasing};
 
 use rayon::slice::par_sort_unstable;
 use std::thread::Threads;
@@ -33,4 +33,17 @@ pub fn sort_in_threads<T: Ord + Send>(rt: &(impl Threads + Sync), elements: &mut
     } else {
         par_sort_unstable(rt, elements);
     }
+}
+
+/// Sorts the numbers and removes repeats. Those that are sorted already take one pass.
+///
+/// # Cost
+///
+/// That of a sort.
+pub fn sort_once(numbers: &mut Vec<u64>)
+    ensures increasing { IsStrictlyIncreasing numbers.new.items }
+    ensures members { (k : ℕ) → Contains numbers.new.items k ↔ Contains numbers.old.items k }
+{
+    numbers.sort_unstable();
+    numbers.dedup();
 }

@@ -6,9 +6,13 @@ use Rattle.std.specs.Prelude.{
   ◌<◌,
   ◌≤◌,
   ◌-◌,
+  ◌+◌,
+  ◌*◌,
+  ◌%◌,
   ◌^◌,
   pos,
   ◌<ℤ◌,
+  ◌+ℤ◌,
   List,
   map,
   length,
@@ -21,7 +25,7 @@ use Rattle.std.specs.Prelude.{
 }
 use Rattle.lay_point.specs.declared.point.Point.{Point}
 use Rattle.snap_pixels.specs.declared.segment.Segment.{Segment}
-use Rattle.snap_slabs.specs.declared.rows.RowKey.{RowKey}
+use Rattle.snap_pixels.specs.Coordinates.{from_least}
 use Rattle.lay_point.specs.Points.{IsBefore}
 use Rattle.snap_edge_laws.specs.Chains.{IsChain}
 use Rattle.lay_point.specs.Rising.{IsRising}
@@ -37,11 +41,15 @@ abbrev pub centres_at : List Point → List ℕ → List Point
 centres_at hot numbers = map (centre_at hot) numbers
 
 -- the key of the centre of this number, by which centres are in the order of rows
-abbrev pub row_key : List Point → ℕ → RowKey
-row_key hot i = record { row = (centre_at hot i).y; back = 4294967295 - i }
+abbrev pub row_key : List Point → ℕ → ℕ
+row_key hot i = from_least (centre_at hot i).y * 4294967296 + (4294967295 - i)
 
-abbrev pub number_of : RowKey → ℕ
-number_of k = 4294967295 - k.back
+-- the rows of all centres are rows that a key can tell
+abbrev pub HaveRows : List Point → Type 0
+HaveRows hot = (i : ℕ) → i < length hot → pos (from_least (centre_at hot i).y) ≡ (centre_at hot i).y +ℤ pos 2147483648
+
+abbrev pub number_of : ℕ → ℕ
+number_of k = 4294967295 - k % 4294967296
 
 -- by row upward, in a row from right to left
 abbrev pub IsRowBefore : Point → Point → Type 0

@@ -11,10 +11,11 @@
 //!   order of y (`specs/Slabs.antt`): in each slab the segment is clipped to the slab's columns, and only the rows
 //!   that it reaches there are asked (`specs/Clips.antt`). What it answers is what asking each centre would.
 //!
-//! Searches of all centres can begin at a hint ([`Numbers::number_near`], [`Finder::add_met`]). Any hint is right, and a
-//! near one saves most steps.
+//! Searches of all centres begin at a hint (`buckets`, [`Finder::add_met`]). Any hint is right, and a near one saves most
+//! steps.
 #![tactic(auto)]
 
+mod buckets;
 mod candidates;
 mod clip;
 mod columns_of;

@@ -6,6 +6,7 @@ ghost use Rattle.lay_point.specs.Rising.{IsRising};
 ghost use Rattle.snap_pixels.specs.declared.segment.Segment.{Segment};
 ghost use Rattle.snap_slabs.specs.Runs.{AreEnds, IsChainRun, IsSide};
 
+use crate::buckets::Buckets;
 use crate::columns_of::is_before;
 use crate::rows::{places_of, rows_of};
 use lay_point::{NoMemory, Point};
@@ -22,6 +23,8 @@ pub struct Numbers<'h> {
     rows: Vec<u32>,
     /// The index of each number in `rows`.
     places: Vec<u32>,
+    /// Where searches of centres begin.
+    buckets: Buckets,
 }
 
 impl<'h> Model for Numbers<'h> {
@@ -62,7 +65,13 @@ impl<'h> Numbers<'h> {
             return Err(NoMemory);
         }
         let places = places_of(alloc, rows.as_slice(), centres.len())?;
-        Ok(Numbers { hot, rows, places })
+        let buckets = Buckets::of(alloc, centres)?;
+        Ok(Numbers {
+            hot,
+            rows,
+            places,
+            buckets,
+        })
     }
 
     /// Returns the hot centres, in the order of points.
@@ -78,29 +87,15 @@ impl<'h> Numbers<'h> {
     ///
     /// # Cost
     ///
-    /// A binary search.
+    /// A few tests where the centres lie evenly; at most twice the logarithm of their number.
     pub fn number(&self, centre: Point) -> u32
-        requires { Contains self.now centre }
-        ensures { slice_get self.now result ≡ Some centre }
-    {
-        let found = self.hot.centres().binary_search(&centre);
-        found.unwrap() as u32
-    }
-
-    /// Returns the number of a hot centre. The search begins at the number `hint`; any will do.
-    ///
-    /// # Cost
-    ///
-    /// Tests in proportion to the logarithm of how far the number is from the hint; at most twice the logarithm
-    /// of the number of centres.
-    pub fn number_near(&self, centre: Point, hint: u32) -> u32
         requires { Contains self.now centre }
         ensures { slice_get self.now result ≡ Some centre }
     {
         let centres = self.hot.centres();
         let found = partition_from(
             centres.len(),
-            hint as usize,
+            self.buckets.near(centre),
             |i| is_before(centres[i], centre),
         );
         found as u32

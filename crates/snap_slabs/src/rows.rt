@@ -1,22 +1,15 @@
 //! The numbers of centres by rows.
-ghost use Rattle.std.specs.Prelude.{◌≡◌, ◌↔◌, ℕ, ◌<◌, ◌-◌, ◌^◌, Contains, IfOk, Some, length, map, slice_get, slice_index_or};
+ghost use Rattle.std.specs.Prelude.{◌≡◌, ◌↔◌, ℕ, ◌+◌, ◌*◌, ◌<◌, ◌-◌, ◌^◌, ◌+ℤ◌, pos, Contains, IfOk, Some, length, map, slice_get, slice_index_or};
 ghost use Rattle.std.specs.List.{range_with_len};
 ghost use Rattle.lay_point.specs.Points.{IsBefore};
 ghost use Rattle.lay_point.specs.Rising.{IsRising};
-ghost use Rattle.snap_slabs.specs.Runs.{IsRowBefore, centres_at, number_of, row_key};
+ghost use Rattle.snap_pixels.specs.Coordinates.{from_least};
+ghost use Rattle.snap_slabs.specs.Runs.{HaveRows, IsRowBefore, centres_at, number_of, row_key};
 
 use lay_point::Point;
-use snap_pixels::sort_in_threads;
+use snap_pixels::{from_least, sort_in_threads, sort_once};
 use std::alloc::{AllocError, Global};
 use std::thread::Threads;
-
-/// The row of a centre and its number, taken from the greatest. Keys are in the order of rows, in a row from greater
-/// numbers to lesser.
-#[derive(Clone, Copy, Debug, PartialEq, Eq, PartialOrd, Ord)]
-pub(crate) struct RowKey {
-    row: i32,
-    back: u32,
-}
 
 /// Returns the numbers of the centres by rows upward, in a row from right to left. They are sorted in as many
 /// threads as there are processors.
@@ -32,15 +25,16 @@ pub(crate) fn rows_of(
 {
     let mut keys = row_keys(alloc, centres)?;
     sort_in_threads(rt, keys.as_mut_slice());
-    keys.dedup();
+    sort_once(&mut keys);
     let rows = numbers_of(alloc, keys.as_slice())?;
     Ok(rows)
 }
 
 /// Returns the keys of the centres.
-fn row_keys(alloc: Global, centres: &[Point]) -> Result<Vec<RowKey>, AllocError>
+fn row_keys(alloc: Global, centres: &[Point]) -> Result<Vec<u64>, AllocError>
     requires few { length centres.now < 2 ^ 32 }
-    ensures { IfOk result (λ keys. keys.items ≡ map (row_key centres.now) (range_with_len 0 (length centres.now))) }
+    ensures keys { IfOk result (λ keys. keys.items ≡ map (row_key centres.now) (range_with_len 0 (length centres.now))) }
+    ensures rows { IfOk result (λ keys. HaveRows centres.now) }
 {
     let mut keys = Vec::with_capacity(alloc, centres.len())?;
     for (number, centre) in centres.iter().enumerate() {
@@ -49,23 +43,21 @@ fn row_keys(alloc: Global, centres: &[Point]) -> Result<Vec<RowKey>, AllocError>
     Ok(keys)
 }
 
-/// Returns the key of the centre, of this number.
-fn key_of(centre: Point, number: u32) -> RowKey
-    ensures { result ≡ record { row = centre.y; back = 4294967295 - number } }
+/// Returns the key of the centre of this number. Keys are in the order of rows, in a row from greater numbers to lesser.
+fn key_of(centre: Point, number: u32) -> u64
+    ensures value { result ≡ from_least centre.y * 4294967296 + (4294967295 - number) }
+    ensures row { pos (from_least centre.y) ≡ centre.y +ℤ pos 2147483648 }
 {
-    RowKey {
-        row: centre.y,
-        back: u32::MAX - number,
-    }
+    from_least(centre.y) * 4_294_967_296 + u64::from(u32::MAX - number)
 }
 
 /// Returns the numbers of the keys.
-fn numbers_of(alloc: Global, keys: &[RowKey]) -> Result<Vec<u32>, AllocError>
+fn numbers_of(alloc: Global, keys: &[u64]) -> Result<Vec<u32>, AllocError>
     ensures { IfOk result (λ numbers. numbers.items ≡ map number_of keys.now) }
 {
     let mut numbers = Vec::with_capacity(alloc, keys.len())?;
     for key in keys {
-        numbers.push(u32::MAX - key.back)?;
+        numbers.push(u32::MAX - (*key % 4_294_967_296) as u32)?;
     }
     Ok(numbers)
 }

@@ -27,5 +27,6 @@ loop-centre-preserved c =
 pub returns : goal.returns
 returns c =
     let all = take_all c.loop-centre.centre-index c.args.centres.now (search rules) in
-    subst (λ l. ArePassed (Meets c.args.segment.now.a c.args.segment.now.b) (Contains c.args.points.now.items) (λ p. p) l c.loop-centre.points.items)
+    subst (λ l. ArePassed (Meets c.args.segment.now.a c.args.segment.now.b) (Contains c.args.points.now.items) (λ p. p) l
+    c.loop-centre.points.items)
     all c.loop-centre.invariant

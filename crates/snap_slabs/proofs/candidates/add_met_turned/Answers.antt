@@ -21,12 +21,14 @@ loop-centre-preserved c =
       | then-meets+in_ok-push w ↦ rw w.if-meets.true (search rules)
       | else-meets w ↦ rw w.if-meets.false (ap (λ v. v.items) w.points-is)
     ] in
-    kept_more (Meets s.a s.b) (Contains c.args.points.now.items) transposed (λ p. refl) cs i (get_or cs i origin) old c.loop-centre-test.true
+    kept_more (Meets s.a s.b) (Contains c.args.points.now.items) transposed (λ p. refl) cs i (get_or cs i origin) old
+    c.loop-centre-test.true
     (get_or_default cs i _ origin c.loop-centre-test.true)
     c.loop-centre.invariant c.meets.result c.if-meets.points.items c.meets.ensures more
 
 pub returns : goal.returns
 returns c =
     let all = take_all c.loop-centre.centre-index c.args.centres.now (search rules) in
-    subst (λ l. ArePassed (Meets c.args.segment.now.a c.args.segment.now.b) (Contains c.args.points.now.items) transposed l c.loop-centre.points.items)
+    subst (λ l. ArePassed (Meets c.args.segment.now.a c.args.segment.now.b) (Contains c.args.points.now.items) transposed l
+    c.loop-centre.points.items)
     all c.loop-centre.invariant

@@ -11,8 +11,8 @@ returns-clause-by_row g c =
     let moved = rw c.as_mut_slice.ensures.value at c.sort_in_threads.ensures.permutation in
     subst (λ l. IsRising IsRowBefore (centres_at c.args.centres.now l))
     (sym (c.in_ok-rows.ensures ∙ ap (map number_of) c.as_slice.ensures.value))
-    (rows_rise c.args.centres.now c.requires.rising c.requires.few _ _ _ c.in_ok-keys.ensures moved
-    c.sort_in_threads.ensures.sorted (rw all at c.dedup.ensures.filtered))
+    (rows_rise c.args.centres.now c.requires.rising c.requires.few c.in_ok-keys.ensures.rows _ _ _ c.in_ok-keys.ensures.keys moved
+    c.sort_once.ensures.increasing (rw all at c.sort_once.ensures.members))
 
 pub returns-clause-members : goal.returns-clause-members
 returns-clause-members g c =
@@ -20,5 +20,5 @@ returns-clause-members g c =
     let moved = rw c.as_mut_slice.ensures.value at c.sort_in_threads.ensures.permutation in
     subst (λ l. (i : ℕ) → Contains l i ↔ i < length c.args.centres.now)
     (sym (c.in_ok-rows.ensures ∙ ap (map number_of) c.as_slice.ensures.value))
-    (rows_have c.args.centres.now c.requires.rising c.requires.few _ _ _ c.in_ok-keys.ensures moved
-    c.sort_in_threads.ensures.sorted (rw all at c.dedup.ensures.filtered))
+    (rows_have c.args.centres.now c.requires.rising c.requires.few c.in_ok-keys.ensures.rows _ _ _ c.in_ok-keys.ensures.keys moved
+    c.sort_once.ensures.increasing (rw all at c.sort_once.ensures.members))

@@ -21,6 +21,7 @@ loop-slab-preserved c =
 pub returns : goal.returns
 returns c =
     let all = take_all c.loop-slab.slab-index c.args.slabs.now (search rules) in
-    subst (λ (l : List (List Point)). ArePassed (Meets c.args.segment.now.a c.args.segment.now.b) (Contains c.args.points.now.items) transposed
+    subst (λ (l : List (List Point)). ArePassed (Meets c.args.segment.now.a c.args.segment.now.b)
+    (Contains c.args.points.now.items) transposed
     (points_in l) c.loop-slab.points.items)
     all c.loop-slab.invariant

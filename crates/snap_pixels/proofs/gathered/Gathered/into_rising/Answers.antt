@@ -7,7 +7,7 @@ use Rattle.snap_pixels.proofs.gathered.Gathered.into_rising.Goals as goal
 
 pub returns : goal.returns
 returns c =
-    let keys = c.sort_once.new.keys.items in
+    let keys = c.sort_once.new.numbers.items in
     let made = c.in_ok-centres.ensures ∙ ap (map centre_of) c.as_slice.ensures.value in
     record {
       rising = subst ArePointsRising (sym made) (centres_rising keys c.sort_once.ensures.increasing);

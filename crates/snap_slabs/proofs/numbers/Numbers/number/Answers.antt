@@ -1,26 +1,27 @@
-use Rattle.std.proofs.Common.{◌∙◌, ◌<◌, Contains, sym, ap, subst, rules, length}
-use Rattle.std.specs.List.Sorted.{IsBinarySearchResult, IsSearchInRange}
-use Rattle.std.specs.Prelude.{IsOk, slice_get}
+use Rattle.std.proofs.Common.{◌≡◌, ◌∙◌, true, false, get_or, Contains, sym, ap, subst, rules}
+use Rattle.std.specs.Prelude.{slice_get}
 use Rattle.lay_point.specs.Rising.{IsRising}
 use Rattle.lay_point.specs.Points.{IsBefore}
-use Rattle.snap_pixels.proofs.OrderLemmas.{point_cmp}
-use Rattle.snap_slabs.proofs.KeyOrder.{found_there, found_at}
+use Rattle.snap_slabs.specs.Columns.{is_lesser_point}
+use Rattle.snap_slabs.specs.Runs.{no_centre}
+use Rattle.snap_slabs.proofs.ColumnLemmas.{left_part, parts_by_neighbours}
+use Rattle.snap_slabs.proofs.KeyOrder.{found_behind, points_rising}
 use Rattle.snap_slabs.proofs.numbers.Numbers.number.Goals as goal
-
-pub unwrap-requires : goal.unwrap-requires
-unwrap-requires c =
-    let same = c.centres.ensures.value ∙ c.self.view_is in
-    let up = subst (IsRising IsBefore) (sym c.centres.ensures.value) c.self.invariant.rising in
-    let m = subst (λ l. Contains l c.args.centre) (sym same) c.requires in
-    let there = found_there c.centres.result.now c.args.centre c.binary_search-found.result up c.binary_search-found.ensures.bound
-    c.binary_search-found.ensures.position m in
-    subst (λ r. IsOk r) (sym there.1) (search rules)
 
 pub returns : goal.returns
 returns c =
-    let same = c.centres.ensures.value ∙ c.self.view_is in
-    let lt : c.unwrap.result < length c.centres.result.now =
-    subst (λ r. IsSearchInRange r (length c.centres.result.now)) c.unwrap.ensures c.binary_search-found.ensures.bound in
-    let at = subst (λ r. IsBinarySearchResult (λ y. point_cmp y c.args.centre) c.centres.result.now r) c.unwrap.ensures
-    c.binary_search-found.ensures.position in
-    ap (λ l. slice_get l c.unwrap.result) (sym same) ∙ found_at c.centres.result.now c.args.centre c.unwrap.result lt at
+    let same = c.centres-centres.ensures.value ∙ c.self.view_is in
+    let cs = c.centres-centres.result.now in
+    let x = c.args.centre in
+    let n = c.partition_from-found.result in
+    let up = subst (IsRising IsBefore) (sym c.centres-centres.ensures.value) c.self.invariant.rising in
+    let parts = parts_by_neighbours (λ v. is_lesser_point v x) cs (left_part x cs (points_rising cs up)) no_centre n
+    c.partition_from-found.ensures.bound
+    (λ k next.
+    let post = c.partition_from-found.ensures.before k next in
+    let t : is_lesser_point (get_or cs k no_centre) x ≡ true = search rules in t)
+    (λ less.
+    let post = c.partition_from-found.ensures.behind less in
+    let t : is_lesser_point (get_or cs n no_centre) x ≡ false = search rules in t) in
+    ap (λ l. slice_get l n) (sym same)
+    ∙ found_behind cs up x n (subst (λ l. Contains l x) (sym same) c.requires) parts

@@ -2,7 +2,7 @@ use Rattle.std.proofs.lemmas.List.Filters.{dedup_is}
 use Rattle.std.proofs.lemmas.List.Kept.{Contains-dedup_nat, Contains-from_dedup}
 use Rattle.std.proofs.lemmas.List.Sorted.{Contains-permutation, IsPermutation-sym}
 use Rattle.std.proofs.lemmas.Map.Keys.{IsStrictlyIncreasing-dedup}
-use Rattle.snap_pixels.proofs.gathered.sort_once.Goals as goal
+use Rattle.snap_pixels.proofs.sorting.sort_once.Goals as goal
 
 pub returns : goal.returns
 returns c =
