@@ -48,7 +48,7 @@ fn put_inner(cuts: &mut Vec<i64>, stops: &[Stop], workers: usize) -> Result<(), 
     Ok(())
 }
 
-/// Returns the row of the stop at the index, or row 0, if there is none.
+/// Returns the row of the stop at the index, or zero, if there is none.
 fn row_at(stops: &[Stop], index: usize) -> i64 {
     match stops.get(index) {
         Some(stop) => i64::from(stop.point.y),

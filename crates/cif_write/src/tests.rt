@@ -60,12 +60,18 @@ fn rewrite_boxed(alloc: Global, text: &[u8], out: &mut MemoryOut) -> Result<(), 
     Ok(prepare(&snapshot)?.put_as(out, Rectangles::Boxes)?)
 }
 
+/// Returns what a written text has between the head and the end of its only definition.
+fn body_of(written: &[u8]) -> Option<&[u8]> {
+    written
+        .strip_prefix(b"DS 1 1 2;\n")?
+        .strip_suffix(b"DF;\nC 1;\nE\n")
+}
+
 // Could catch a definition of a box that isn't the format: its unit, the order of its numbers, where its centre is, and which
-// paths are boxes: the rectangles that begin at any corner and run either way, but those with an odd middle, with a point
-// more, or too long, and no other shape of four points.
+// paths are boxes: the rectangles that begin at any corner and run either way.
 #[test]
 fn upright_rectangles_are_written_as_boxes(rt: HostRuntime) {
-    let rows: [(&[u8], &[u8]); 13] = [
+    let rows: [(&[u8], &[u8]); 6] = [
         (b"L NM; B 40 20 0 0; E", b"L NM;\nB 80 40 0 0;\n"),
         (b"L A; P 3 5 3 2 -1 2 -1 5; E", b"L A;\nB 8 6 2 7;\n"),
         (b"L A; P -1 5 -1 2 3 2 3 5; E", b"L A;\nB 8 6 2 7;\n"),
@@ -74,6 +80,26 @@ fn upright_rectangles_are_written_as_boxes(rt: HostRuntime) {
             b"L A; B 2 2 0 0; B 2 4 0 0; L B; B 2 2 9 -9; E",
             b"L A;\nB 4 4 0 0;\nB 4 8 0 0;\nL B;\nB 4 4 18 -18;\n",
         ),
+        (
+            b"DS 1 1 2; L A; P -1073741824 0 1073741822 0 1073741822 2 -1073741824 2; DF; C 1; E",
+            b"L A;\nB 2147483646 2 -1 1;\n",
+        ),
+    ];
+    for (text, want) in rows {
+        let mut out = MemoryOut::new(rt.alloc(), 1000, 1000, Failing::ByErr);
+        assert_eq!(rt;
+            rewrite_boxed(rt.alloc(), text, &mut out),
+            Ok(()),
+            "{want:?}"
+        );
+        assert_eq!(rt; body_of(out.written()), Some(want));
+    }
+}
+
+// Could catch a box with an odd middle, with a point more, or too long, and a box for another shape of four points.
+#[test]
+fn other_shapes_are_not_written_as_boxes(rt: HostRuntime) {
+    let rows: [(&[u8], &[u8]); 7] = [
         (
             b"DS 1 1 2; L A; P 0 0 3 0 3 2 0 2; DF; C 1; E",
             b"L A;\nP 0 0 3 0 3 2 0 2;\n",
@@ -93,10 +119,6 @@ fn upright_rectangles_are_written_as_boxes(rt: HostRuntime) {
         (b"L A; P 0 1 1 0 2 1 1 2; E", b"L A;\nP 0 2 2 0 4 2 2 4;\n"),
         (b"L A; P 0 0 2 2 2 0 0 2; E", b"L A;\nP 0 0 4 4 4 0 0 4;\n"),
         (
-            b"DS 1 1 2; L A; P -1073741824 0 1073741822 0 1073741822 2 -1073741824 2; DF; C 1; E",
-            b"L A;\nB 2147483646 2 -1 1;\n",
-        ),
-        (
             b"DS 1 1 2; L A; P -1073741824 0 1073741824 0 1073741824 2 -1073741824 2; DF; C 1; E",
             b"L A;\nP -1073741824 0 1073741824 0 1073741824 2 -1073741824 2;\n",
         ),
@@ -108,11 +130,7 @@ fn upright_rectangles_are_written_as_boxes(rt: HostRuntime) {
             Ok(()),
             "{want:?}"
         );
-        let inner = out
-            .written()
-            .strip_prefix(b"DS 1 1 2;\n")
-            .and_then(|rest| rest.strip_suffix(b"DF;\nC 1;\nE\n"));
-        assert_eq!(rt; inner, Some(want));
+        assert_eq!(rt; body_of(out.written()), Some(want));
     }
 }
 

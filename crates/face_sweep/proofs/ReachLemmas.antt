@@ -108,7 +108,7 @@ boxes_more old new owners i d edge less grown here so_far o extent listed e =
         here extent (subst (λ p. extent_of new p ≡ Some extent) (sym (same_owner (get_or owners i d) o t)) e)
     by_tests false false s t h = absurd cc
 
--- ---- what is told of an edge
+-- ---- what the sweep knows of an edge
 pub turn_at : (r : Owned) (reach : Reach) (n : ℕ) (kept turn : Turn) → IsReach r reach → n < length r.0
     → kept ≡ get_or reach.turns.items n kept → kept ≡ turn
     → IsTurnOf (owners_at r n) (edge_at r n) reach.boxes (keys_of reach) turn

@@ -112,9 +112,10 @@ pub record AreTraced (r : Owned) (boxes : Boxes) (keys : List ℕ) : Type 0 wher
 abbrev pub keys_of : Reach → List ℕ
 keys_of reach = reach.traced.items
 
--- ---- what is told of each edge
+-- ---- what the sweep knows of each edge
 -- a shape of the input is the only owner: it isn't traced, and its box tells this of the edge
-pub record IsToldAlone (owners : List Owner) (edge : Point × Point) (boxes : Boxes) (keys : List ℕ) (input : Input) (holds : Bool) : Type 0 where
+pub record IsToldAlone (owners : List Owner) (edge : Point × Point) (boxes : Boxes) (keys : List ℕ) (input : Input) (holds : Bool)
+    : Type 0 where
   pub shape : ℕ
   pub small : shape < 2 ^ 32
   pub alone : owners ≡ nth_shape input shape ∷ []
@@ -134,12 +135,12 @@ IsTurnOf owners edge boxes keys Sought = ⊤
 IsTurnOf owners edge boxes keys (Told input holds) = IsToldAlone owners edge boxes keys input holds
 IsTurnOf owners edge boxes keys (Traced input index) = IsTracedAlone owners keys input index
 
--- what is told where the box of the only owner tells this
+-- what is known where the box of the only owner tells this
 abbrev pub turn_told : Input → Option Bool → Turn
 turn_told input None = Sought
 turn_told input (Some holds) = Told input holds
 
--- what is told where the only owner has the list of this index
+-- what is known where the only owner has the list of this index
 abbrev pub traced_if : Bool → Input → ℕ → Turn
 traced_if true input index = Traced input index
 traced_if false input index = Sought

@@ -8,7 +8,8 @@ use crate::turns::{Turn, turns_of};
 use snap_chains::CleanEdges;
 use std::alloc::{AllocError, Global};
 
-/// The boxes round the edges of the shapes, which shapes have edges of which these don't tell, and what is told of each edge.
+/// The boxes round the edges of the shapes, which shapes have edges of which these don't tell, and what is known
+/// of each edge.
 #[derive(Debug, Drop)]
 pub struct Reach {
     pub(crate) boxes: Boxes,

@@ -1,4 +1,4 @@
-//! What the sweep is told of each edge before it begins.
+//! What the sweep knows of each edge before it begins.
 ghost use Rattle.std.specs.Prelude.{◌≡◌, ◌∷◌, [], IfOk};
 ghost use Rattle.std.specs.List.Sorted.{IsStrictlyIncreasing};
 ghost use Rattle.face_sweep.specs.Reaches.{AreTurns, IsTurnOf, turn_told, turn_traced};
@@ -24,7 +24,7 @@ pub(crate) enum Turn {
     Traced { input: Input, index: u16 },
 }
 
-/// Returns what is told of each edge, in order. The keys are those of the shapes that are traced.
+/// Returns what is known of each edge, in order. The keys are those of the shapes that are traced.
 pub(crate) fn turns_of(
     alloc: Global,
     edges: &CleanEdges,
@@ -42,7 +42,7 @@ pub(crate) fn turns_of(
     Ok(turns)
 }
 
-/// Returns what is told of an edge that has these owners.
+/// Returns what is known of an edge that has these owners.
 fn turn_of(owners: &[Owner], edge: Edge, boxes: &Boxes, keys: &[u64]) -> Turn
     requires { IsStrictlyIncreasing keys.now }
     ensures { IsTurnOf owners.now edge boxes.now keys.now result }
@@ -53,7 +53,7 @@ fn turn_of(owners: &[Owner], edge: Edge, boxes: &Boxes, keys: &[u64]) -> Turn
     turn_by(owners[0], edge, boxes, keys)
 }
 
-/// Returns what is told of an edge that has this owner alone.
+/// Returns what is known of an edge that has this owner alone.
 fn turn_by(owner: Owner, edge: Edge, boxes: &Boxes, keys: &[u64]) -> Turn
     requires { IsStrictlyIncreasing keys.now }
     ensures { IsTurnOf (owner ∷ []) edge boxes.now keys.now result }

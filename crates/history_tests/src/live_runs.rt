@@ -101,7 +101,7 @@ fn a_head_with_a_fault_is_told(rt: HostRuntime) {
     );
 }
 
-// Could catch names of another text or of none, a symbol that is told by a label, one that isn't written and keeps its name, and names
+// Could catch names of another text or of none, a symbol named by a label, one that isn't written and keeps its name, and names
 // left out that aren't counted.
 #[test]
 fn symbols_have_the_names_of_the_head(rt: HostRuntime) {

@@ -50,7 +50,7 @@ pub fn of_text_fault(alloc: Global, text: &[u8], fault: CifFault) -> Result<Vec<
     lines_of(alloc, text, offset, words.problem.as_bytes(), words.cure)
 }
 
-/// What is reported to a person of a fault of the CIF text of this job. Its place is told in the text, and in the job.
+/// What is reported to a person of a fault of the CIF text of this job. Its place is given in the text, and in the job.
 ///
 /// # Errors
 ///
@@ -98,7 +98,7 @@ pub fn of_job_fault(alloc: Global, job: &[u8], line: u32) -> Result<Vec<u8>, NoM
 
 /// What is reported to a person where no live run begins after this head: the lines before `%live`, or all lines where none begins
 /// so. `line` is that of the fault, counted from 1; a head that is too long has it on line 0. Where sections come before that line,
-/// which a live run doesn't have, the first of them is told of.
+/// which a live run doesn't have, the first of them is named.
 ///
 /// # Errors
 ///

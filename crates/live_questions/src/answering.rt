@@ -13,7 +13,7 @@ use lay_point::NoMemory;
 use std::alloc::Global;
 use undo_book::Book;
 
-/// Returns the comments that answer the question, where the book is this. To `Cells` a symbol is told with its name, if these
+/// Returns the comments that answer the question, where the book is this. To `Cells` a symbol is listed with its name, if these
 /// have one for it.
 ///
 /// # Errors

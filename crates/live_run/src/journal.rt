@@ -27,7 +27,7 @@ pub trait Journal {
         ensures ok { OnOk result (KeptAll kept losses self.old self.new ((as_line line.now, is_flushed) ∷ [])) }
         ensures fault { OnErr result (KeptPart kept losses self.old self.new ((as_line line.now, is_flushed) ∷ [])) };
 
-    /// Is told of a line that says nothing which a run takes, and of its number. Such a line isn't kept.
+    /// Takes a line that says nothing which a run takes, and its number. Such a line isn't kept.
     fn tell(&mut self, line: &[u8], number: u64)
         ensures { KeptAll kept losses self.old self.new [] };
 }

@@ -8,4 +8,5 @@ returns-clause-begins g c =
     let sorted = c.sorted_in_threads.result.items in
     let small : length c.args.edges.now < 9223372036854775808 = search rules in
     are_begins c.args.edges.now sorted small c.in_ok-begins.ensures.low
-    (subst (λ bs. IsPermutation bs sorted) c.in_ok-begins.ensures.begins c.sorted_in_threads.ensures.permutation) c.sorted_in_threads.ensures.sorted
+    (subst (λ bs. IsPermutation bs sorted) c.in_ok-begins.ensures.begins c.sorted_in_threads.ensures.permutation)
+    c.sorted_in_threads.ensures.sorted

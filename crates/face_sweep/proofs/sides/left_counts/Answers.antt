@@ -1,4 +1,4 @@
--- An edge with one owner turns this shape alone: whether it holds is told by its box, or by its list.
+-- An edge with one owner turns this shape alone: its box or its list tells whether it holds.
 use Rattle.std.proofs.Common.{sym, ap, ◌∙◌, arith}
 use Rattle.lay_point.specs.Parity.{xor}
 use Rattle.snap_chains.specs.Rounded.{is_owner_listed}

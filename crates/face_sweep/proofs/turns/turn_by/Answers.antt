@@ -1,4 +1,5 @@
-use Rattle.std.proofs.Common.{◌≡◌, ◌≢◌, ◌<◌, ◌^◌, ℕ, Bool, true, false, [], ◌∷◌, None, Option, Some, List, length, get_or, refl, sym, subst, ◌∙◌, rules}
+use Rattle.std.proofs.Common.{◌≡◌, ◌≢◌, ◌<◌, ◌^◌, ℕ, Bool, true, false, [], ◌∷◌, None, Option}
+use Rattle.std.proofs.Common.{Some, List, length, get_or, refl, sym, subst, ◌∙◌, rules}
 use Rattle.std.specs.Prelude.{nat_lt}
 use Rattle.lay_point.specs.declared.point.Point.{Point}
 use Rattle.snap_chains.specs.declared.owner.Owner.{Owner}
@@ -32,4 +33,5 @@ returns-in-Some c =
     let o = c.args.owner in
     let small : o.shape < 2 ^ 32 = search rules in
     subst (IsTurnOf (o ∷ []) c.args.edge c.args.boxes.now c.args.keys.now) (sym c.traced.ensures)
-    (traced_turn o c.args.edge c.args.boxes.now c.args.keys.now c.in-Some.index (nat_lt c.in-Some.index 65536) small c.in-Some.ensures.0 c.in-Some.ensures.1)
+    (traced_turn o c.args.edge c.args.boxes.now c.args.keys.now c.in-Some.index (nat_lt c.in-Some.index 65536) small
+    c.in-Some.ensures.0 c.in-Some.ensures.1)
