@@ -48,7 +48,7 @@ impl Buckets {
             .map_or(0, |number: &u32| *number as usize)
     }
 
-    /// Has the buckets up to the centre's own begin with it, where they have no centre yet.
+    /// Has the buckets without a first centre, up to the centre's own, begin with it.
     fn reach(&mut self, centre: Point, number: u32) -> Result<(), AllocError> {
         for _ in self.first.len()..self.index(centre).saturating_add(1) {
             self.first.push(number)?;
