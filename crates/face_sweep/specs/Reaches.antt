@@ -102,11 +102,15 @@ input_number Second = 1
 abbrev pub key_of : Owner → ℕ
 key_of o = 2 * o.shape + input_number o.input
 
+-- the keys of the shapes whose boxes don't tell of an edge of theirs are there
+abbrev pub ArePut : Owned → Boxes → List ℕ → Type 0
+ArePut r boxes keys = (n : ℕ) (o : Owner) → n < length r.0 → is_owner_listed o (owners_at r n) ≡ true
+    → told_by (extent_of boxes o) (edge_at r n) ≡ None → Contains keys (key_of o)
+
 -- of each edge of another shape its box tells
 pub record AreTraced (r : Owned) (boxes : Boxes) (keys : List ℕ) : Type 0 where
   pub rising : IsStrictlyIncreasing keys
-  pub all : (n : ℕ) (o : Owner) → n < length r.0 → is_owner_listed o (owners_at r n) ≡ true
-      → told_by (extent_of boxes o) (edge_at r n) ≡ None → Contains keys (key_of o)
+  pub all : ArePut r boxes keys
 
 -- the keys of the shapes that are traced
 abbrev pub keys_of : Reach → List ℕ

@@ -3,9 +3,9 @@ ghost use Rattle.std.specs.Prelude.{IfOk};
 ghost use Rattle.face_sweep.specs.Reaches.{IsReach};
 
 use crate::boxes::Boxes;
-use crate::traced::traced_shapes;
-use crate::turns::{Turn, turns_of};
+use crate::turns::{Turn, told_turns, turns_of};
 use snap_chains::CleanEdges;
+use snap_pixels::sort_once;
 use std::alloc::{AllocError, Global};
 
 /// The boxes round the edges of the shapes, which shapes have edges of which these don't tell, and what is known
@@ -28,13 +28,22 @@ impl Reach {
     ///
     /// # Cost
     ///
-    /// Four passes over the edges and their owners, and a sort of the owners of those edges that aren't on the
-    /// border of their shape's box.
+    /// Three passes over the edges and their owners. Where some edges aren't on the border of their shape's box, one more,
+    /// and a sort of the owners of these.
     pub fn of_edges(alloc: Global, edges: &CleanEdges) -> Result<Reach, AllocError>
         ensures { IfOk result (IsReach edges.now) }
     {
         let boxes = Boxes::of_edges(alloc, edges)?;
-        let traced = traced_shapes(alloc, edges, &boxes)?;
+        let mut traced = Vec::new(alloc);
+        let turns = told_turns(alloc, edges, &boxes, &mut traced)?;
+        if traced.is_empty() {
+            return Ok(Reach {
+                boxes,
+                traced,
+                turns,
+            });
+        }
+        sort_once(&mut traced);
         let turns = turns_of(alloc, edges, &boxes, traced.as_slice())?;
         Ok(Reach {
             boxes,

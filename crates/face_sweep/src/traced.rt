@@ -1,36 +1,18 @@
 //! The shapes whose edges the sweep traces: those of some edge of which the shape's box doesn't tell.
-ghost use Rattle.std.specs.Prelude.{◌≡◌, ◌≢◌, ◌<◌, ℕ, Contains, IfOk, MatchOption, None, OnOk, length, slice_index, true};
+ghost use Rattle.std.specs.Prelude.{◌≡◌, ◌≢◌, ◌<◌, ℕ, Contains, MatchOption, None, OnOk, length, slice_index, true};
 ghost use Rattle.std.specs.List.Sorted.{IsStrictlyIncreasing};
 ghost use Rattle.snap_chains.specs.declared.owner.Owner.{Owner};
 ghost use Rattle.snap_chains.specs.Rounded.{is_owner_listed};
-ghost use Rattle.face_sweep.specs.Reaches.{AreTraced, extent_of, key_of, told_by};
+ghost use Rattle.face_sweep.specs.Reaches.{extent_of, key_of, told_by};
 
 use crate::boxes::Boxes;
 use crate::extent::told_by;
 use lay_point::Edge;
-use snap_chains::{CleanEdges, Input, Owner};
-use std::alloc::{AllocError, Global};
-
-/// Returns the keys of the shapes that own an edge of which their box doesn't tell, in order.
-pub(crate) fn traced_shapes(
-    alloc: Global,
-    edges: &CleanEdges,
-    boxes: &Boxes,
-) -> Result<Vec<u64>, AllocError>
-    ensures { IfOk result (λ keys. AreTraced edges.now boxes.now keys.items) }
-{
-    let mut keys = Vec::new(alloc);
-    for number in 0..edges.edges().len() {
-        let edge = edges.edges()[number];
-        put_untold(edges.owners(number), edge, boxes, &mut keys)?;
-    }
-    keys.sort_unstable();
-    keys.dedup();
-    Ok(keys)
-}
+use snap_chains::{Input, Owner};
+use std::alloc::AllocError;
 
 /// Appends the keys of those owners of the edge whose boxes don't tell of it.
-fn put_untold(
+pub(crate) fn put_untold(
     owners: &[Owner],
     edge: Edge,
     boxes: &Boxes,

@@ -1,11 +1,13 @@
 //! What the sweep knows of each edge before it begins.
-ghost use Rattle.std.specs.Prelude.{◌≡◌, ◌∷◌, [], IfOk};
+ghost use Rattle.std.specs.Prelude.{◌≡◌, ◌∷◌, [], ℕ, Contains, IfOk, None, OnOk, true};
 ghost use Rattle.std.specs.List.Sorted.{IsStrictlyIncreasing};
-ghost use Rattle.face_sweep.specs.Reaches.{AreTurns, IsTurnOf, turn_told, turn_traced};
+ghost use Rattle.snap_chains.specs.declared.owner.Owner.{Owner};
+ghost use Rattle.snap_chains.specs.Rounded.{is_owner_listed};
+ghost use Rattle.face_sweep.specs.Reaches.{ArePut, AreTurns, IsTurnOf, extent_of, key_of, told_by, turn_told, turn_traced};
 
 use crate::boxes::Boxes;
 use crate::extent::told_by;
-use crate::traced::index_of;
+use crate::traced::{index_of, put_untold};
 use lay_point::Edge;
 use snap_chains::{CleanEdges, Input, Owner};
 use std::alloc::{AllocError, Global};
@@ -22,6 +24,46 @@ pub(crate) enum Turn {
     Told { input: Input, holds: bool },
     /// A shape of the input, which is traced: the list of this index has its edges.
     Traced { input: Input, index: u16 },
+}
+
+/// Returns what is known of each edge, in order, if no shape is traced, and appends the keys of the owners whose boxes don't
+/// tell of an edge of theirs.
+pub(crate) fn told_turns(
+    alloc: Global,
+    edges: &CleanEdges,
+    boxes: &Boxes,
+    keys: &mut Vec<u64>,
+) -> Result<Vec<Turn>, AllocError>
+    ensures turns { IfOk result (λ turns. AreTurns edges.now boxes.now [] turns.items) }
+    ensures untold { OnOk result (ArePut edges.now boxes.now keys.new.items) }
+{
+    let mut turns = Vec::with_capacity(alloc, edges.edges().len())?;
+    for number in 0..edges.edges().len() {
+        let edge = edges.edges()[number];
+        turns.push(told_turn(edges.owners(number), edge, boxes, keys)?)?;
+    }
+    Ok(turns)
+}
+
+/// Returns what is known of an edge that has these owners, if no shape is traced, and appends the keys of those whose boxes
+/// don't tell of it.
+fn told_turn(
+    owners: &[Owner],
+    edge: Edge,
+    boxes: &Boxes,
+    keys: &mut Vec<u64>,
+) -> Result<Turn, AllocError>
+    ensures turn { IfOk result (IsTurnOf owners.now edge boxes.now []) }
+    ensures kept { OnOk result ((k : ℕ) → Contains keys.old.items k → Contains keys.new.items k) }
+    ensures untold { OnOk result ((o : Owner) → is_owner_listed o owners.now ≡ true
+        → told_by (extent_of boxes.now o) edge ≡ None → Contains keys.new.items (key_of o)) }
+{
+    let turn = turn_of(owners, edge, boxes, &[]);
+    if let Turn::Told { .. } = turn {
+        return Ok(turn);
+    }
+    put_untold(owners, edge, boxes, keys)?;
+    Ok(turn)
 }
 
 /// Returns what is known of each edge, in order. The keys are those of the shapes that are traced.
