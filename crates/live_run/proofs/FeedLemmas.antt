@@ -150,8 +150,8 @@ module _ {O J : Type 0} (showing : Showing) (written : O → Option (List ℕ)) 
       (sym (append-nil given)) at
 
   pub pieces : (a b c : O × J) (first line_feed : LineFeed) (done piece : List ℕ) (result : Result LineFeed LiveEnd)
-      → PieceTo showing written failures kept losses a b first done (Ok line_feed) → PieceTo showing written failures kept losses b c line_feed piece
-      result
+      → PieceTo showing written failures kept losses a b first done (Ok line_feed)
+      → PieceTo showing written failures kept losses b c line_feed piece result
       → PieceTo showing written failures kept losses a c first (done ++ piece) result
   pieces a b c first line_feed done piece (Ok next) p q past base given at =
       subst (λ (l : List ℕ). Feeds showing written failures kept losses past base c l (phase_of next.course) next.line.items)

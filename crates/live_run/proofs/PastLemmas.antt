@@ -1,5 +1,6 @@
 -- Where a run begins behind the lines of its journal.
-use Rattle.std.proofs.Common.{◌≡◌, ◌≢◌, ℕ, ◌+◌, List, [], ◌∷◌, true, false, Option, Some, Result, Ok, Err, inl, inr, refl, sym, ap, ◌∙◌, subst}
+use Rattle.std.proofs.Common.{◌≡◌, ◌≢◌, ℕ, ◌+◌, List, [], ◌∷◌, true, false, Option, Some, Result}
+use Rattle.std.proofs.Common.{Ok, Err, inl, inr, refl, sym, ap, ◌∙◌, subst}
 use Rattle.std.proofs.Common.{append-nil, length}
 use Rattle.std.proofs.lemmas.List.{nil_from_length}
 use Rattle.std.proofs.KnownBytes.{Appends-nil}
@@ -95,8 +96,8 @@ module _ {O J : Type 0} (showing : Showing) (written : O → Option (List ℕ)) 
   unbegun base out seen head count Memory at some r = tt
 
   pub begins : (base out : O × J) (journal : List ℕ) (line_feed : LineFeed) (result : Result LineFeed LiveEnd)
-      → Feeds showing written failures kept losses no_past base out journal (phase_of line_feed.course) line_feed.line.items → BegunTo line_feed result
-      → BeginsBehind showing journal result
+      → Feeds showing written failures kept losses no_past base out journal (phase_of line_feed.course) line_feed.line.items
+      → BegunTo line_feed result → BeginsBehind showing journal result
   begins base out journal line_feed (Ok begun) (seen, cut, at) (to, empty) = (
     subst (λ (ls : List (List ℕ)). StandsBehind showing ls (phase_of begun.course)) (sym (cut_whole journal seen line_feed.line.items cut))
         (stands base out seen (phase_of line_feed.course) (phase_of begun.course) at to),

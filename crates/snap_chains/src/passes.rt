@@ -39,7 +39,7 @@ const RINGS: usize = 256;
 ///
 /// # Cost
 ///
-/// A binary search for each side. A side along an axis takes no more than its passes; for a slanted one its chain
+/// A search of a number for each side. A side along an axis takes no more than its passes; for a slanted one its chain
 /// is found, and the number of each centre in that.
 pub(crate) fn all_passes(
     rt: &(impl Threads + Sync),

@@ -34,8 +34,8 @@ returns-in_err-taken-clause-fed g c =
     let at = c.loop.invariant.gone in
     let ends : (g.I.In.counts c.take.new.self).ends ≡ (g.I.In.counts c.args.input.now).ends = grind (arith, common_steps) in
     let failures : (g.I.In.counts c.take.new.self).failures ≡ (g.I.In.counts c.args.input.now).failures + 1 = grind (arith, common_steps) in
-    subst (λ (r : Result LineFeed LiveEnd). FedAll c.args.showing (observed_by g.I.In.remaining g.I.In.counts g.O.Out.written g.O.Out.failures
-    g.J.Journal.kept g.J.Journal.losses) c.args.first (devices c.args.input.now c.args.out.now c.args.journal.now)
+    subst (λ (r : Result LineFeed LiveEnd). FedAll c.args.showing (observed_by g.I.In.remaining g.I.In.counts g.O.Out.written
+    g.O.Out.failures g.J.Journal.kept g.J.Journal.losses) c.args.first (devices c.args.input.now c.args.out.now c.args.journal.now)
     (devices c.take.new.self c.loop.out c.loop.journal) r) (sym failed)
     (λ past feeds. (
       at.0,

@@ -11,8 +11,8 @@ pub returns-in_err-map_err : goal.returns-in_err-map_err
 returns-in_err-map_err g c =
     let failed : c.from_residual.result ≡ Err Memory = search rules in
     λ past base given at.
-    subst (λ (r : Result LineFeed LiveEnd). FeedsOn c.args.showing g.O.Out.written g.O.Out.failures g.J.Journal.kept g.J.Journal.losses past base
-    (c.args.out.now, c.args.journal.now) (given ++ c.args.byte ∷ []) r)
+    subst (λ (r : Result LineFeed LiveEnd). FeedsOn c.args.showing g.O.Out.written g.O.Out.failures g.J.Journal.kept
+    g.J.Journal.losses past base (c.args.out.now, c.args.journal.now) (given ++ c.args.byte ∷ []) r)
     (sym failed)
     (λ more. byte_memory c.args.showing g.O.Out.written g.O.Out.failures g.J.Journal.kept g.J.Journal.losses past base
     (c.args.out.now, c.args.journal.now)
