@@ -13,4 +13,6 @@ pub mod PathLemmas
 pub mod PathPasses
 pub mod ReadLemmas
 pub mod RoundLemmas
+pub mod RowOrderLemmas
+pub mod SpanLemmas
 pub mod ViewLemmas

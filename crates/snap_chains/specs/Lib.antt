@@ -6,5 +6,6 @@ pub mod Passes
 pub mod Reading
 pub mod Round
 pub mod Rounded
+pub mod RowOrder
 pub mod Sides
 pub mod Visits

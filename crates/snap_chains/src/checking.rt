@@ -7,6 +7,7 @@ ghost use Rattle.snap_chains.specs.Rounded.{AreClean};
 
 use crate::clean_edges::{CleanEdges, CleanFault};
 use crate::rounded::Rounded;
+use crate::row_order::RowOrder;
 use lay_point::Edge;
 use snap_edge_laws::meet_at_ends;
 use std::alloc::Global;
@@ -17,15 +18,18 @@ use std::alloc::Global;
 /// # Errors
 ///
 /// `NotClean` with the first pair of edges that have more in common than an end, by the first edge, then by the second.
-pub fn check_clean(_alloc: Global, rounded: Rounded) -> Result<CleanEdges, CleanFault>
+pub fn check_clean(alloc: Global, rounded: Rounded) -> Result<CleanEdges, CleanFault>
     ensures value { IfOk result (λ c. c ≡ rounded) }
     ensures clean { OnOk result (AreClean rounded.0) }
     ensures first { IfErr result (NamesFirst rounded.0) }
 {
-    match first_pair(rounded.edges()) {
-        Some((first, second)) => Err(CleanFault::NotClean { first, second }),
-        None => Ok(CleanEdges { rounded }),
+    if let Some((first, second)) = first_pair(rounded.edges()) {
+        return Err(CleanFault::NotClean { first, second });
     }
+    let Ok(order) = RowOrder::of_edges(alloc, rounded.edges()) else {
+        return Err(CleanFault::NoMemory);
+    };
+    Ok(CleanEdges { rounded, order })
 }
 
 /// Returns the numbers of the first two edges that have more in common than an end.

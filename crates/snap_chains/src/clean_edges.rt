@@ -4,9 +4,11 @@ ghost use Rattle.lay_point.specs.Rising.{IsRising};
 ghost use Rattle.lay_point.specs.Edges.{IsEdgeBefore};
 ghost use Rattle.snap_chains.specs.Owners.{IsOwnerBefore};
 ghost use Rattle.snap_chains.specs.Rounded.{AreClean, AreEven};
+ghost use Rattle.snap_chains.specs.RowOrder.{AreInRowOrder};
 
 use crate::owner::Owner;
 use crate::rounded::Rounded;
+use crate::row_order::RowOrder;
 use lay_point::Edge;
 use std::marker::Model;
 use thiserror::Error;
@@ -32,16 +34,19 @@ pub enum CleanFault {
 #[derive(Debug, Drop)]
 pub struct CleanEdges {
     pub(crate) rounded: Rounded,
+    /// Their ends in the order of rows.
+    pub(crate) order: RowOrder,
 }
 
 impl Model for CleanEdges {
     ghost use Rattle.snap_chains.specs.Rounded.{AreClean, Owned};
+    ghost use Rattle.snap_chains.specs.RowOrder.{AreInRowOrder};
 
     ghost Value = { Owned };
 
     ghost view = { λ c. c.rounded };
 
-    ghost invariant = { λ c. AreClean c.rounded.0 };
+    ghost invariant = { λ c. AreClean c.rounded.0 × AreInRowOrder c.rounded.0 c.order };
 }
 
 impl CleanEdges {
@@ -54,6 +59,13 @@ impl CleanEdges {
         ensures clean { AreClean self.now.0 }
     {
         self.rounded.edges()
+    }
+
+    /// Returns the ends of the edges in the order of rows.
+    pub fn order(&self) -> &RowOrder
+        ensures { AreInRowOrder self.now.0 result.now }
+    {
+        &self.order
     }
 
     /// Returns the owners of the edge of this number, in order: by input, then by number.

@@ -22,6 +22,8 @@
 //!   says for each edge where its own are. Contracts see the pair of the list of edges and the list
 //!   of their lists of owners. Edges have no direction, and are in the order of their lesser ends,
 //!   then of their greater ones.
+//! - [`RowOrder`] has the ends of clean edges in the order of rows, as a sweep comes to them: the points, and where
+//!   among these each edge has its ends ([`Span`], `specs/RowOrder.antt`).
 //! - A visit (`specs/Visits.antt`) is an edge that a rounded ring goes, with the ring's owner. A pass
 //!   (`pass.rt`, `specs/Passes.antt`) is the same by numbers. What sorted passes are read to
 //!   (`specs/Reading.antt`) is by points the edges of the visits, and their owners.
@@ -35,7 +37,9 @@
 //! - `CleanEdges`: besides, a place on two different edges is an end of both (`AreClean` of
 //!   `specs/Rounded.antt`). `round` makes such by the laws of `snap_edge_laws`, without a test.
 //!   [`check_clean`] tests it exactly for edges from elsewhere, or names the first two that fail
-//!   ([`CleanFault`], `specs/Clean.antt`), in as many steps as there are pairs.
+//!   ([`CleanFault`], `specs/Clean.antt`), in as many steps as there are pairs. Their `RowOrder` is kept with them:
+//!   `round` has it from the hot centres, which are in the order of rows for the sake of level sides, and `check_clean`
+//!   sorts the ends.
 //!
 //! # Files
 //!
@@ -43,7 +47,7 @@
 //! - `owned.rt`, `rings.rt`, `chains.rt`: rings, their sides, and chains by points.
 //! - `centres.rt`, `pass.rt`, `passes.rt`: the passes of rings, by numbers.
 //! - `reading.rt`, `owner_lists.rt`: from passes to edges with owners.
-//! - `rounded.rt`, `clean_edges.rt`, `checking.rt`: the results, and the test.
+//! - `rounded.rt`, `clean_edges.rt`, `row_order.rt`, `checking.rt`: the results, and the test.
 //!
 //! # Example
 //!
@@ -72,6 +76,7 @@ mod reading;
 mod rings;
 mod rounded;
 mod rounding;
+mod row_order;
 
 pub use chains::chain;
 pub use checking::check_clean;
@@ -81,3 +86,4 @@ pub use owner::{Input, Owner};
 pub use rings::{ring_sides, round_ring};
 pub use rounded::Rounded;
 pub use rounding::round;
+pub use row_order::{RowOrder, Span};

@@ -1,22 +1,26 @@
-//! The edges that passes go, and the owners of each, read of sorted passes.
+//! The edges that passes go, the owners of each, and where its ends are by rows, read of sorted passes.
 ghost use Rattle.std.specs.Prelude.{◌≡◌, ◌↔◌, ◌<◌, Contains, IfOk, IsTrue, OnOk, length, map};
+ghost use Rattle.std.specs.List.{AllZip};
 ghost use Rattle.std.specs.List.Sorted.{IsSorted};
 ghost use Rattle.lay_point.specs.Points.{IsBefore};
 ghost use Rattle.lay_point.specs.Rising.{IsRising};
 ghost use Rattle.snap_chains.specs.declared.pass.Pass.{Pass};
 ghost use Rattle.snap_chains.specs.Passes.{HasCentres, passed_edge, visit_at};
 ghost use Rattle.snap_chains.specs.Reading.{HasLastOwner, IsEdgeGroup, IsOddAdded, IsReadOff, IsView, numbered_edge, pass_cmp};
+ghost use Rattle.snap_chains.specs.RowOrder.{IsSpanBy, span_of};
 
 use crate::owner::Owner;
 use crate::owner_lists::{OwnerLists, Part};
 use crate::pass::{Pass, is_same_edge};
+use crate::row_order::Span;
 use lay_point::{Edge, Point};
 use snap_pixels::sorted_in_threads;
 use std::alloc::{AllocError, Global};
 use std::thread::Threads;
 
-/// Returns the edges that the passes go, each once and in order, and the owners that go each an odd number of
-/// times. The passes are sorted in as many threads as there are processors.
+/// Returns the edges that the passes go, each once and in order, the owners that go each an odd number of times, and
+/// where the ends of each are, by the ranks of the centres. The passes are sorted in as many threads as there are
+/// processors.
 ///
 /// # Errors
 ///
@@ -30,30 +34,37 @@ pub(crate) fn read(
     alloc: Global,
     passes: Vec<Pass>,
     centres: &[Point],
-) -> Result<(Vec<Edge>, OwnerLists), AllocError>
+    ranks: &[u32],
+) -> Result<(Vec<Edge>, OwnerLists, Vec<Span>), AllocError>
     requires rising { IsRising IsBefore centres.now }
     requires inside { (p : Pass) → Contains passes.items p → HasCentres centres.now p }
-    ensures { IfOk result (λ r. IsView (map (visit_at centres.now) passes.items) r.0.items r.1) }
+    requires ranked { length ranks.now ≡ length centres.now }
+    ensures view { IfOk result (λ r. IsView (map (visit_at centres.now) passes.items) r.0.items r.1) }
+    ensures spans { IfOk result (λ r. AllZip (IsSpanBy centres.now ranks.now) r.0.items r.2.items) }
 {
     let sorted = sorted_in_threads(rt, passes);
-    let found = read_sorted(alloc, sorted.as_slice(), centres)?;
+    let found = read_sorted(alloc, sorted.as_slice(), centres, ranks)?;
     Ok(found)
 }
 
-/// Returns the edges of sorted passes, and the owners of each.
+/// Returns the edges of sorted passes, the owners of each, and where its ends are.
 fn read_sorted(
     alloc: Global,
     passes: &[Pass],
     centres: &[Point],
-) -> Result<(Vec<Edge>, OwnerLists), AllocError>
+    ranks: &[u32],
+) -> Result<(Vec<Edge>, OwnerLists, Vec<Span>), AllocError>
     requires sorted { IsSorted pass_cmp passes.now }
     requires rising { IsRising IsBefore centres.now }
     requires inside { (p : Pass) → Contains passes.now p → HasCentres centres.now p }
-    ensures { IfOk result (λ r. IsReadOff centres.now passes.now r.0.items r.1) }
+    requires ranked { length ranks.now ≡ length centres.now }
+    ensures read { IfOk result (λ r. IsReadOff centres.now passes.now r.0.items r.1) }
+    ensures spans { IfOk result (λ r. AllZip (IsSpanBy centres.now ranks.now) r.0.items r.2.items) }
 {
     let mut edges = Vec::with_capacity(alloc, passes.len())?;
     let mut owners = Vec::with_capacity(alloc, passes.len())?;
     let mut parts = Vec::with_capacity(alloc, passes.len())?;
+    let mut spans = Vec::with_capacity(alloc, passes.len())?;
     let mut rest = passes;
     while let Some((first, _)) = rest.split_first() {
         let (group, later) = rest.split_at(group_length(rest));
@@ -62,9 +73,10 @@ fn read_sorted(
         let to = count_of(&owners)?;
         parts.push(Part { from, to })?;
         edges.push(edge_at(*first, centres))?;
+        spans.push(span_at(*first, ranks))?;
         rest = later;
     }
-    Ok((edges, OwnerLists { owners, parts }))
+    Ok((edges, OwnerLists { owners, parts }, spans))
 }
 
 /// Returns how many owners there are, if a number of 32 bits can say it.
@@ -99,6 +111,18 @@ fn edge_at(pass: Pass, centres: &[Point]) -> Edge
     ensures { result ≡ passed_edge centres.now pass }
 {
     edge_between(centres[pass.low as usize], centres[pass.high as usize])
+}
+
+/// Returns where the ends of the pass's edge are, by the ranks of their numbers.
+fn span_at(pass: Pass, ranks: &[u32]) -> Span
+    requires low { pass.low < length ranks.now }
+    requires high { pass.high < length ranks.now }
+    ensures { result ≡ span_of ranks.now (numbered_edge pass) }
+{
+    Span {
+        low: ranks[pass.low as usize],
+        high: ranks[pass.high as usize],
+    }
 }
 
 /// Returns the edge between two points, the lesser first.

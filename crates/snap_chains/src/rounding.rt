@@ -9,6 +9,7 @@ use crate::owned::{OwnedRing, all_sides};
 use crate::passes::all_passes;
 use crate::reading::read;
 use crate::rounded::Rounded;
+use crate::row_order::RowOrder;
 use lay_point::NoMemory;
 use snap_pixels::hot;
 use std::alloc::Global;
@@ -41,7 +42,9 @@ pub fn round(
     let found = hot(rt, alloc, &segments)?;
     let centres = Centres::of(rt, alloc, &segments, &found)?;
     let passes = all_passes(rt, alloc, rings, &segments, &centres)?;
-    let (edges, owners) = read(rt, alloc, passes, centres.numbers.centres())?;
+    let (points, ranks) = centres.numbers.by_rows(alloc)?;
+    let (edges, owners, spans) = read(rt, alloc, passes, centres.numbers.centres(), ranks)?;
     let rounded = Rounded { edges, owners };
-    Ok(CleanEdges { rounded })
+    let order = RowOrder { points, spans };
+    Ok(CleanEdges { rounded, order })
 }

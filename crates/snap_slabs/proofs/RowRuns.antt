@@ -31,7 +31,8 @@ use Rattle.std.proofs.Math.Seq.{drop-cons}
 use Rattle.std.specs.Prelude.{slice_range, slice_get, slice_index_or, reverse}
 use Rattle.std.proofs.lemmas.Bool.{cases_lt}
 use Rattle.std.proofs.lemmas.List.{get_or-map, take-map, drop-map, length-map, get_or_default}
-use Rattle.std.proofs.lemmas.Option.{slice_get_within, get_or_from_slice_get}
+use Rattle.std.proofs.lemmas.Option.{slice_get-map, slice_get_within, get_or_from_slice_get}
+use Rattle.std.specs.Option.{option_map}
 use Rattle.lay_point.proofs.Signs.{linear, below_or_not, below_or_same}
 use Rattle.lay_point.specs.declared.point.Point.{Point}
 use Rattle.lay_point.specs.Points.{IsBefore}
@@ -40,7 +41,7 @@ use Rattle.snap_edge_laws.specs.Chains.{IsChain}
 use Rattle.lay_point.proofs.Rising.{IsStrictOrder}
 use Rattle.lay_point.proofs.EdgeOrder.{before_is_strict, same_point}
 use Rattle.lay_point.specs.Rising.{IsRising}
-use Rattle.snap_slabs.specs.Runs.{AreEnds, no_centre, centre_at, centres_at, IsRowBefore, IsSide, IsChainRun, AreByRows}
+use Rattle.snap_slabs.specs.Runs.{AreEnds, AreRanked, no_centre, centre_at, centres_at, IsRowBefore, IsSide, IsChainRun, AreByRows}
 use Rattle.std.specs.List.{range_with_len}
 use Rattle.lay_point.proofs.ListLaws.{before_by_number}
 use Rattle.snap_slabs.proofs.Along.{
@@ -136,6 +137,14 @@ module _ (hot xs : List Point) (same : (c : Point) → Contains xs c ↔ Contain
       (below_or_not s.b.y s.a.y)
 
 -- ---- by numbers
+-- the centres by rows, and where each is among them
+pub ranked : (hot : List Point) (rows places : List ℕ) → AreByRows hot rows places → AreRanked hot (centres_at hot rows) places
+ranked hot rows places n = record {
+  by_row = n.by_row;
+  as_many = n.as_many;
+  ranked = λ i less. slice_get-map (centre_at hot) rows (slice_index_or places i 0) ∙ ap (option_map (centre_at hot)) (n.placed i less);
+}
+
 module _ (hot : List Point) (rows places : List ℕ) (n : AreByRows hot rows places) (s : Segment) (i j : ℕ) (side : IsSide hot s i j) where
   in_row : (k : ℕ) (p : Point) → slice_get hot k ≡ Some p → slice_index_or places k 0 < length rows
   in_row k p here = slice_get_within rows (slice_index_or places k 0) k (n.placed k (slice_get_within hot k p here))

@@ -74,6 +74,12 @@ pub record AreByRows (hot : List Point) (rows places : List ℕ) : Type 0 where
   pub as_many : length places ≡ length hot
   pub placed : (i : ℕ) → i < length hot → slice_get rows (slice_index_or places i 0) ≡ Some i
 
+-- the centres by rows, and where each is among them, by its number
+pub record AreRanked (hot points : List Point) (ranks : List ℕ) : Type 0 where
+  pub by_row : IsRising IsRowBefore points
+  pub as_many : length ranks ≡ length hot
+  pub ranked : (i : ℕ) → i < length hot → slice_get points (slice_index_or ranks i 0) ≡ Some (centre_at hot i)
+
 -- the first and the last of two numbers
 pub record AreEnds (i j first last : ℕ) : Type 0 where
   pub first_low : first ≤ i

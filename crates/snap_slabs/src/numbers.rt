@@ -4,14 +4,14 @@ ghost use Rattle.std.specs.List.{range_with_len};
 ghost use Rattle.lay_point.specs.Points.{IsBefore};
 ghost use Rattle.lay_point.specs.Rising.{IsRising};
 ghost use Rattle.snap_pixels.specs.declared.segment.Segment.{Segment};
-ghost use Rattle.snap_slabs.specs.Runs.{AreEnds, IsChainRun, IsSide};
+ghost use Rattle.snap_slabs.specs.Runs.{AreEnds, AreRanked, IsChainRun, IsSide};
 
 use crate::buckets::Buckets;
 use crate::columns_of::is_before;
-use crate::rows::{places_of, rows_of};
+use crate::rows::{centres_of, places_of, rows_of};
 use lay_point::{NoMemory, Point};
 use snap_pixels::{HotSet, partition_from};
-use std::alloc::Global;
+use std::alloc::{AllocError, Global};
 use std::marker::Model;
 use std::thread::Threads;
 
@@ -99,6 +99,22 @@ impl<'h> Numbers<'h> {
             |i| is_before(centres[i], centre),
         );
         found as u32
+    }
+
+    /// Returns the hot centres by rows upward, in a row from right to left, and the index there of each, by its number.
+    ///
+    /// # Errors
+    ///
+    /// `AllocError`, if an allocation fails.
+    ///
+    /// # Cost
+    ///
+    /// A pass over the centres.
+    pub fn by_rows(&self, alloc: Global) -> Result<(Vec<Point>, &[u32]), AllocError>
+        ensures { IfOk result (λ r. AreRanked self.now r.0.items r.1.now) }
+    {
+        let points = centres_of(alloc, self.hot.centres(), self.rows.as_slice())?;
+        Ok((points, self.places.as_slice()))
     }
 
     /// Returns the numbers of the chain of a level side, forth or back.

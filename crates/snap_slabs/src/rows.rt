@@ -76,3 +76,19 @@ pub(crate) fn places_of(alloc: Global, rows: &[u32], count: usize) -> Result<Vec
     }
     Ok(places)
 }
+
+/// Returns the centres of these numbers.
+pub(crate) fn centres_of(
+    alloc: Global,
+    centres: &[Point],
+    numbers: &[u32],
+) -> Result<Vec<Point>, AllocError>
+    requires { (i : ℕ) → Contains numbers.now i → i < length centres.now }
+    ensures { IfOk result (λ points. points.items ≡ centres_at centres.now numbers.now) }
+{
+    let mut points = Vec::with_capacity(alloc, numbers.len())?;
+    for number in numbers {
+        points.push(centres[*number as usize])?;
+    }
+    Ok(points)
+}

@@ -13,13 +13,13 @@ read_sorted-requires-clause-inside g c = λ p m.
     (IsPermutation-sym c.args.passes.items c.sorted_in_threads-sorted.result.items c.sorted_in_threads-sorted.ensures.permutation)
     (subst (λ l. Contains l p) c.as_slice.ensures.value m))
 
-pub returns : goal.returns
-returns g c =
+pub returns-clause-view : goal.returns-clause-view
+returns-clause-view g c =
     let hot = c.args.centres.now in
     let passes = c.args.passes.items in
     let sorted = c.sorted_in_threads-sorted.result.items in
     let owners = c.in_ok-found.found.1 in
-    let found = subst (λ l. IsReadOff hot l c.in_ok-found.found.0.items owners) c.as_slice.ensures.value c.in_ok-found.ensures in
+    let found = subst (λ l. IsReadOff hot l c.in_ok-found.found.0.items owners) c.as_slice.ensures.value c.in_ok-found.ensures.read in
     subst (λ l. IsView (map (visit_at hot) passes) l owners) (sym found.edges_are)
     (view_of hot c.requires.rising passes (λ p m. c.requires.inside p (contains passes p m)) found.ends owners
     (read_permuted passes sorted found.ends owners c.sorted_in_threads-sorted.ensures.permutation found.read))
