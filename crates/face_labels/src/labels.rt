@@ -29,7 +29,7 @@ use std::alloc::{AllocError, Global};
 ///
 /// # Cost
 ///
-/// A sort of the ends of all edges, and for each point of the band at which edges begin or end a search among the
+/// A sort of where all edges begin, and for each point of the band at which edges begin or end a search among the
 /// edges of its row, which is short where the point before is near. Where more edges begin at a point than end
 /// there, or fewer, the edges right of it are moved. For each owner of an edge that begins or ends, if some edge of
 /// that shape isn't on the border of its box, a search among the edges of the row that the shape owns, and those

@@ -32,8 +32,8 @@ impl Shared {
     ///
     /// # Cost
     ///
-    /// Three passes over the edges and their owners, a sort of the edges' ends, and one of the owners of those edges
-    /// that aren't on the border of their shape's box.
+    /// Five passes over the edges, three of them over their owners, a sort of where the edges begin, and one of the owners
+    /// of those edges that aren't on the border of their shape's box.
     pub fn of_edges(alloc: Global, edges: &CleanEdges) -> Result<Shared, NoMemory>
         ensures { IfOk result (IsShared edges.now) }
     {

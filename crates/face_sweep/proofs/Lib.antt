@@ -1,6 +1,7 @@
 pub mod BehindLemmas
 pub mod BoxLemmas
 pub mod CountLemmas
+pub mod EndLemmas
 pub mod KnownLemmas
 pub mod LabelLemmas
 pub mod LevelLemmas

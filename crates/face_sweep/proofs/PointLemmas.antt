@@ -169,12 +169,12 @@ module _ (r : Owned) (sound : AreSound r) where
       let less = subst (λ k. IsLeftOf r.0 row k n) same left nowhere in omega (arith, linear)
 
   -- in a row that has the point's height, or whose end is there
-  pub record AreOrdered (p : Point) (m n : ℕ) : Type 0 where
+  pub record AreInRowOrder (p : Point) (m n : ℕ) : Type 0 where
     pub from : pos 0 ≤ℤ distance_from r p m → pos 0 ≤ℤ distance_from r p n
     pub behind : pos 0 <ℤ distance_from r p m → pos 0 <ℤ distance_from r p n
 
   pub in_order : (p : Point) (row : ℤ) → IsBesideRow row (pos 1) p.y → (m n : ℕ) → CrossesRow r.0 row m → CrossesRow r.0 row n
-      → IsLeftOf r.0 row m n → AreOrdered p m n
+      → IsLeftOf r.0 row m n → AreInRowOrder p m n
   in_order p row beside m n hm hn left =
       let e = upward (edge_at r m) in
       let f = upward (edge_at r n) in

@@ -1,294 +1,52 @@
--- Places in the order of the sweep, where edges begin and end in that order, and the stops that are made of them.
-use Rattle.std.proofs.Common.{◌≡◌, ◌≢◌, ◌⊎◌, inl, inr, ⊎_elim, ℕ, zero, suc, ◌+◌, ◌-◌, ◌*◌, ◌/◌, ◌%◌, ◌<◌, ◌≤◌, Bool, true, false}
+-- The stops that are made of the places at which edges begin and end.
+use Rattle.std.proofs.Common.{◌≡◌, ◌≢◌, inl, inr, ⊎_elim, ℕ, zero, suc, ◌+◌, ◌-◌, ◌<◌, ◌≤◌, true, false}
 use Rattle.std.proofs.Common.{List, [], ◌∷◌, ◌++◌}
 use Rattle.std.proofs.Common.{add-one, append_assoc, length, get_or, map, take, drop, Contains, ℤ, ◌<ℤ◌, ◌≤ℤ◌, refl, sym}
 use Rattle.std.proofs.Common.{ap, subst, ◌∙◌, arith}
-use Rattle.std.specs.Prelude.{All, int_le, int_lt, nat_eq, nat_le, slice_range}
-use Rattle.std.specs.Cmp.{IsTotalOrder, nat_cmp_is}
+use Rattle.std.specs.Prelude.{All, int_lt, nat_eq, slice_range}
 use Rattle.std.specs.List.{AllByRecursion, AllPairs, IsDistinct}
-use Rattle.std.specs.List.Sorted.{IsPartitionedBy, IsPermutation, IsSorted, IsSortedBy}
-use Rattle.std.specs.Ordering.{is_lt, nat_cmp, ordering_then}
-use Rattle.std.specs.declared.cmp.Ordering.TheVariants.{Equal, Less}
+use Rattle.std.specs.List.Sorted.{IsPartitionedBy, IsPermutation, IsSortedBy}
 use Rattle.std.proofs.lemmas.Bool.{cases_lt}
-use Rattle.std.proofs.lemmas.Bool.Decides.{Decides-eqb, nat_tests}
-use Rattle.std.proofs.lemmas.Cmp.{nat_cmp_total, on_total, then_total}
+use Rattle.std.proofs.lemmas.Bool.Decides.{Decides-eqb}
 use Rattle.std.proofs.lemmas.Int.{ints}
 use Rattle.std.proofs.lemmas.List.{drop-append-le, get_or-map, get_or_default, length-append, length-drop}
 use Rattle.std.proofs.lemmas.List.{length-map, length-take-le, map-append, map_more, take-append-le, take_all}
 use Rattle.std.proofs.lemmas.List.Elements.{All-push, Contains-append_cases, Contains-append_left, Contains-append_right}
 use Rattle.std.proofs.lemmas.List.Elements.{recursion_from_All}
-use Rattle.std.proofs.lemmas.List.Sorted.{All-permutation, Contains-permutation, IsPermutation-map, IsPermutation-sym, ranks_by, sorted_far}
+use Rattle.std.proofs.lemmas.List.Sorted.{All-permutation, Contains-permutation, IsPermutation-map, IsPermutation-sym}
 use Rattle.std.proofs.lemmas.Map.Keys.{IsDistinct-IsPermutation}
-use Rattle.std.proofs.lemmas.Map.Made.{AllPairs-from_IsDistinct, IsDistinct-from_AllPairs}
+use Rattle.std.proofs.lemmas.Map.Made.{IsDistinct-from_AllPairs}
 use Rattle.std.proofs.Math.Seq.{drop-append_seam}
 use Rattle.lay_point.specs.declared.point.Point.{Point}
 use Rattle.lay_point.specs.Edges.{IsEdgeBefore}
 use Rattle.lay_point.specs.Rising.{IsRising}
-use Rattle.lay_point.proofs.Members.{Has, contains, has}
-use Rattle.lay_point.proofs.Rising.{IsStrictOrder}
+use Rattle.lay_point.proofs.Members.{contains, has}
 use Rattle.lay_point.proofs.Signs.{linear}
 use Rattle.lay_point.proofs.Tests.{le_false, le_true, lt_true, true_lt}
-use Rattle.lay_point.proofs.ListLaws.{before_by_number, get_or-slice_range, has_get}
+use Rattle.lay_point.proofs.ListLaws.{before_by_number, get_or-slice_range}
 use Rattle.snap_chains.specs.Rounded.{AreClean, Owned}
 use Rattle.snap_chains.proofs.ListLemmas.{map-range}
 use Rattle.face_rows.specs.Crossings.{IsCrossingOf}
 use Rattle.face_rows.specs.Lines.{edge_at, nowhere}
-use Rattle.face_rows.specs.Picked.{picked}
 use Rattle.face_rows.specs.Rows.{CrossesRow, IsLeftOf, crosses_row, crossing, rise, upward}
 use Rattle.face_rows.specs.declared.crossing.Crossing.{Crossing}
-use Rattle.face_rows.proofs.PickedLemmas.{picked_has, picked_of}
 use Rattle.face_rows.proofs.RowLemmas.{is_left, left_of, spans_of}
 use Rattle.face_rows.proofs.UpwardLemmas.{up_rises}
 use Rattle.face_sweep.proofs.OrderLemmas.{crosses}
+use Rattle.face_sweep.proofs.EndLemmas.{AreInside, after_irreflexive, after_is_strict, flips, no_later_both, no_later_transitive}
+use Rattle.face_sweep.proofs.EndLemmas.{number_in, rising_push, same_place, sooner_after, sooner_irreflexive, sooner_upto}
 use Rattle.face_sweep.specs.Points.{HasHigh, HasLow, IsAfter, IsEndPoint, IsLevelFrom}
-use Rattle.snap_pixels.specs.Coordinates.{coordinate_from, from_least}
-use Rattle.face_sweep.specs.Stops.{AreRisers, AreStops, BeginAt, IsExtended, IsFirstLevel}
-use Rattle.face_sweep.specs.Stops.{IsBegunGroup}
-use Rattle.face_sweep.specs.Stops.{IsHead, IsHeadUpTo, IsNextPlace, IsPlaceRun}
-use Rattle.face_sweep.specs.Stops.{IsWithRisers}
-use Rattle.face_sweep.specs.Ends.{AreBegins, AreSortedEnds, AreReordered, AreMadeEnds, ArePlacesInOrder, AreTops, HasLowPlace, HasTopPlace}
-use Rattle.face_sweep.specs.Ends.{IsBeginOf, IsNoLater, IsSooner, IsTopOf, begin_cmp, begin_number, begin_numbers, begin_of}
-use Rattle.face_sweep.specs.Ends.{
-  begin_places,
-  edge_begins,
-  edge_tops,
-  is_level,
-  level_part,
-  place_cmp,
-  sweep_place,
-  swept_point,
-}
+use Rattle.face_sweep.specs.Stops.{AreRisers, AreStops, BeginAt, IsBegunGroup, IsExtended, IsFirstLevel}
+use Rattle.face_sweep.specs.Stops.{IsHead, IsHeadUpTo, IsNextPlace, IsPlaceRun, IsWithRisers}
+use Rattle.face_sweep.specs.Ends.{AreBegins, ArePlacesInOrder, AreTops, IsBeginOf, IsNoLater, IsSooner}
+use Rattle.face_sweep.specs.Ends.{begin_number, begin_numbers, begin_place, begin_places, is_level, point_at}
 use Rattle.face_sweep.specs.declared.ends.Begin.{Begin}
-use Rattle.face_sweep.specs.declared.ends.Ends.{Ends}
 use Rattle.face_sweep.specs.declared.ends.Place.{Place}
 use Rattle.face_sweep.specs.declared.stops.Stop.{Stop}
 use Rattle.face_sweep.specs.declared.stops.Stops.{Stops}
-use Rattle.snap_pixels.proofs.GatheredLemmas.{parts_of_less}
 
-all_has : {A : Type 0} (P : A → Type 0) (xs : List A) → ((x : A) → Has xs x → P x) → All P xs
-all_has P xs f k d less = f (get_or xs k d) (has_get xs k d less)
-
--- ---- places and points
-offset_shifted : (n : ℕ) → from_least (coordinate_from n) ≡ n
-offset_shifted n = grind (arith, ints)
-
-pub place_back : (q : Place) → sweep_place (swept_point q) ≡ q
-place_back q =
-    let y = offset_shifted (q.key / 4294967296) in
-    let x = offset_shifted (4294967295 - q.key % 4294967296) in
-    let key : from_least (coordinate_from (q.key / 4294967296)) * 4294967296
-    + (4294967295 - from_least (coordinate_from (4294967295 - q.key % 4294967296)))
-    ≡ q.key = (λ i. y i * 4294967296 + (4294967295 - x i)) ∙ omega arith in
-    λ i. record { key = key i }
-
-shifted_less : (m n : ℕ) → m < n → coordinate_from m <ℤ coordinate_from n
-shifted_less m n less = omega (arith, linear)
-
-pub sooner_after : (a b : Place) → IsSooner a b → IsAfter (swept_point a) (swept_point b)
-sooner_after a b less = ⊎_elim
-    (λ (h : (a.key / 4294967296 ≡ b.key / 4294967296) × (a.key % 4294967296 < b.key % 4294967296)).
-    let lt = h.1 in
-    inl (ap coordinate_from h.0, shifted_less (4294967295 - b.key % 4294967296) (4294967295 - a.key % 4294967296) (omega (arith, lt))))
-    (λ (lt : a.key / 4294967296 < b.key / 4294967296).
-    inr (shifted_less (a.key / 4294967296) (b.key / 4294967296) lt))
-    (parts_of_less a.key b.key less)
-
--- ---- the order of the sweep
-after_irreflexive : (p : Point) → IsAfter p p → ⊥
-after_irreflexive p (inl h) = let lt = h.1 in omega (arith, ints, lt)
-after_irreflexive p (inr lt) = omega (arith, ints, lt)
-
-after_transitive : (p q v : Point) → IsAfter p q → IsAfter q v → IsAfter p v
-after_transitive p q v (inl a) (inl b) = inl (a.0 ∙ b.0, omega (arith, ints, a.1, b.1))
-after_transitive p q v (inl a) (inr b) = inr (omega (arith, ints, a.0, b))
-after_transitive p q v (inr a) (inl b) = inr (omega (arith, ints, a, b.0))
-after_transitive p q v (inr a) (inr b) = inr (omega (arith, ints, a, b))
-
-pub after_is_strict : IsStrictOrder IsAfter
-after_is_strict = record { irreflexive = after_irreflexive; transitive = after_transitive }
-
-sooner_irreflexive : (a : Place) → IsSooner a a → ⊥
-sooner_irreflexive a lt = omega (arith, lt)
-
-sooner_transitive : (a b c : Place) → IsSooner a b → IsSooner b c → IsSooner a c
-sooner_transitive a b c h g = omega (arith, h, g)
-
-sooner_upto : (a b c : Place) → IsSooner a b → IsNoLater b c → IsSooner a c
-sooner_upto a b c h (inl same) = subst (IsSooner a) same h
-sooner_upto a b c h (inr g) = sooner_transitive a b c h g
-
-no_later_transitive : (a b c : Place) → IsNoLater a b → IsNoLater b c → IsNoLater a c
-no_later_transitive a b c (inl same) g = subst (λ z. IsNoLater z c) (sym same) g
-no_later_transitive a b c (inr h) g = inr (sooner_upto a b c h g)
-
-no_later_both : (a b : Place) → IsNoLater a b → IsNoLater b a → a ≡ b
-no_later_both a b (inl same) g = same
-no_later_both a b (inr h) g = absurd (sooner_irreflexive a (sooner_upto a b a h g))
-
-sooner_or_not : (a b : Place) → IsSooner a b ⊎ IsNoLater b a
-sooner_or_not a b = ⊎_elim
-    (λ (less : a.key < b.key). inl less)
-    (λ (ge : b.key ≤ a.key). ⊎_elim
-    (λ (more : b.key < a.key). inr (inr more))
-    (λ (le : a.key ≤ b.key). inr (inl (let same : b.key ≡ a.key = omega arith in λ i. record { key = same i })))
-    (cases_lt b.key a.key))
-    (cases_lt a.key b.key)
-
--- ---- sorted places and begins
-place_cmp_total : IsTotalOrder place_cmp
-place_cmp_total = on_total (λ (p : Place). p.key) nat_cmp_total
-
-begin_cmp_total : IsTotalOrder begin_cmp
-begin_cmp_total =
-    then_total (on_total (λ (b : Begin). b.place) place_cmp_total)
-    (on_total (λ (b : Begin). b.order) nat_cmp_total)
-
-sooner_less : (a b : Place) → IsSooner a b → place_cmp a b ≡ Less
-sooner_less a b lt = sym (nat_cmp_is a.key b.key Less lt)
-
-itself_equal : (a : Place) → place_cmp a a ≡ Equal
-itself_equal a = sym (nat_cmp_is a.key a.key Equal refl)
-
-pub places_in_order : (places : List Place) → IsSorted place_cmp places → ArePlacesInOrder places
-places_in_order places sorted i j d le less = ⊎_elim
-    (λ (below : IsSooner (get_or places j d) (get_or places i d)).
-    let up = sorted_far (λ a b. is_lt (place_cmp a b)) (ranks_by place_cmp_total (λ p. p)) places sorted i j d le less in
-    let down = ap is_lt (sooner_less (get_or places j d) (get_or places i d) below) in
-    absurd cc)
-    (λ (not_below : IsNoLater (get_or places i d) (get_or places j d)). not_below)
-    (sooner_or_not (get_or places j d) (get_or places i d))
-
-module _ (begins : List Begin) (sorted : IsSorted begin_cmp begins) where
-  far : (i j : ℕ) (d : Begin) → i ≤ j → j < length begins → is_lt (begin_cmp (get_or begins j d) (get_or begins i d)) ≡ false
-  far i j d le less = sorted_far (λ a b. is_lt (begin_cmp a b)) (ranks_by begin_cmp_total (λ b. b)) begins sorted i j d le less
-
-  pub begins_in_order : ArePlacesInOrder (begin_places begins)
-  begins_in_order i j p le less =
-      let d : Begin = record { place = p; order = 0 } in
-      let inside : j < length begins = omega (arith, length-map begins (λ (b : Begin). b.place)) in
-      let before : i < length begins = omega arith in
-      let at_i = get_or-map (λ (b : Begin). b.place) begins i d p before in
-      let at_j = get_or-map (λ (b : Begin). b.place) begins j d p inside in
-      coe 1 0 (z. IsNoLater (at_i z) (at_j z)) (ordered i j d le inside)
-    where
-      ordered : (i j : ℕ) (d : Begin) → i ≤ j → j < length begins → IsNoLater (get_or begins i d).place (get_or begins j d).place
-      ordered i j d le less = ⊎_elim
-          (λ (below : IsSooner (get_or begins j d).place (get_or begins i d).place).
-          let up = far i j d le less in
-          let down = ap (λ o. is_lt (ordering_then o (nat_cmp (get_or begins j d).order (get_or begins i d).order)))
-          (sooner_less (get_or begins j d).place (get_or begins i d).place below) in
-          absurd cc)
-          (λ (not_below : IsNoLater (get_or begins i d).place (get_or begins j d).place). not_below)
-          (sooner_or_not (get_or begins j d).place (get_or begins i d).place)
-
-  pub levels_last : (i j : ℕ) (d : Begin) → i ≤ j → j < length begins → (get_or begins i d).place ≡ (get_or begins j d).place
-      → is_level (get_or begins i d) ≡ true → is_level (get_or begins j d) ≡ true
-  levels_last i j d le less same level = by_test (is_level (get_or begins j d)) refl
-    where
-      by_test : (t : Bool) → is_level (get_or begins j d) ≡ t → t ≡ true
-      by_test true e = refl
-      by_test false e =
-          let up = far i j d le less in
-          let tie : place_cmp (get_or begins j d).place (get_or begins i d).place ≡ Equal =
-          subst (λ p. place_cmp (get_or begins j d).place p ≡ Equal) (sym same) (itself_equal (get_or begins j d).place) in
-          let lower : (get_or begins j d).order < (get_or begins i d).order = grind (arith, nat_tests, e, level) in
-          let order = sym (nat_cmp_is (get_or begins j d).order (get_or begins i d).order Less lower) in
-          let down : is_lt (begin_cmp (get_or begins j d) (get_or begins i d)) ≡ true = λ k. is_lt (ordering_then (tie k) (order k)) in
-          absurd cc
-
--- ---- the number of an edge, and whether it is level, of where it begins
-part_number : (b : Bool) (n : ℕ) → n < 9223372036854775808 → (level_part b + n) % 9223372036854775808 ≡ n
-part_number true n small = omega (arith, small)
-part_number false n small = omega (arith, small)
-
-part_level : (b : Bool) (n : ℕ) → n < 9223372036854775808 → nat_le 9223372036854775808 (level_part b + n) ≡ b
-part_level true n small = grind (arith, nat_tests, small)
-part_level false n small = grind (arith, nat_tests, small)
-
-number_back : (n : ℕ) (e : Point × Point) → n < 9223372036854775808 → begin_number (begin_of n e) ≡ n
-number_back n e small = part_number (int_le (upward e).1.y (upward e).0.y) n small
-
-level_back : (n : ℕ) (e : Point × Point) → n < 9223372036854775808 → is_level (begin_of n e) ≡ int_le (upward e).1.y (upward e).0.y
-level_back n e small = part_level (int_le (upward e).1.y (upward e).0.y) n small
-
--- ---- each edge once
-abbrev picked_begins : ℕ → List (Point × Point) → List Begin
-picked_begins n es = picked (λ e. true) begin_of n es
-
-numbers_after : (n : ℕ) (es : List (Point × Point)) (m : ℕ) → m < n → n + length es ≤ 9223372036854775808
-    → AllByRecursion (λ k. nat_eq m k ≡ false) (begin_numbers (picked_begins n es))
-numbers_after n [] m less small = tt
-numbers_after n (e ∷ es) m less small = (
-  (let back = number_back n e (omega (arith, small)) in grind (arith, nat_tests, back)),
-  numbers_after (n + 1) es m (omega arith) (omega (arith, small)),
-)
-
-numbers_distinct : (n : ℕ) (es : List (Point × Point)) → n + length es ≤ 9223372036854775808
-    → IsDistinct nat_eq (begin_numbers (picked_begins n es))
-unfolding IsDistinct
-numbers_distinct n [] small = tt
-numbers_distinct n (e ∷ es) small = (
-  subst (λ m. AllByRecursion (λ k. nat_eq m k ≡ false) (begin_numbers (picked_begins (n + 1) es)))
-      (sym (number_back n e (omega (arith, small)))) (numbers_after (n + 1) es n (omega arith) (omega (arith, small))),
-  numbers_distinct (n + 1) es (omega (arith, small)),
-)
-
-flips : (m n : ℕ) → nat_eq m n ≡ nat_eq n m
-flips m n = grind (arith, nat_tests)
-
-pub are_begins : (es : List (Point × Point)) (begins : List Begin) → length es < 9223372036854775808 → All HasLowPlace es
-    → IsPermutation (edge_begins es) begins → IsSorted begin_cmp begins → AreBegins es begins
-are_begins es begins small fit moved sorted = record {
-  small = small;
-  own = All-permutation (IsBeginOf es) (edge_begins es) begins moved (all_has (IsBeginOf es) (edge_begins es) (λ b m.
-      let p = picked_of (λ e. true) begin_of 0 es b m in
-      let zero_more : 0 + p.index ≡ p.index = omega arith in
-      let e = get_or es p.index nowhere in
-      let back : begin_number (begin_of (0 + p.index) e) ≡ p.index =
-      number_back (0 + p.index) e (omega (arith, small, p.inside)) ∙ zero_more in
-      subst (IsBeginOf es) (p.is nowhere) (record {
-        given = subst (λ k. k < length es) (sym back) p.inside;
-        is = λ i. begin_of ((back ∙ sym zero_more) i) (get_or es (back i) nowhere);
-        point = fit p.index nowhere p.inside ∙ ap (λ k. (upward (get_or es k nowhere)).0) (sym back);
-      })));
-  all = λ n inside. Contains-permutation (edge_begins es) begins (begin_of n (get_or es n nowhere)) moved
-      (contains (edge_begins es) (begin_of n (get_or es n nowhere))
-      (subst (λ k. Has (edge_begins es) (begin_of k (get_or es n nowhere))) (omega arith)
-      (picked_has (λ e. true) begin_of 0 es n nowhere inside refl)));
-  order = begins_in_order begins sorted;
-  levels = levels_last begins sorted;
-  apart = AllPairs-from_IsDistinct Decides-eqb (begin_numbers begins)
-      (IsDistinct-IsPermutation nat_eq flips (begin_numbers (edge_begins es)) (begin_numbers begins)
-      (IsPermutation-map begin_number (edge_begins es) begins moved) (numbers_distinct 0 es (omega (arith, small))));
-}
-
-pub are_tops : (es : List (Point × Point)) (tops : List Place) → All HasTopPlace es → IsPermutation (edge_tops es) tops
-    → IsSorted place_cmp tops → AreTops es tops
-are_tops es tops fit moved sorted = record {
-  own = All-permutation (IsTopOf es) (edge_tops es) tops moved (all_has (IsTopOf es) (edge_tops es) (λ q m.
-      let p = picked_of (λ e. true) (λ n e. sweep_place (upward e).1) 0 es q m in
-      record {
-        number = p.index;
-        given = p.inside;
-        point = ap swept_point (sym (p.is nowhere)) ∙ fit p.index nowhere p.inside;
-      }));
-  all = λ n inside.
-      let q = sweep_place (upward (get_or es n nowhere)).1 in (
-        q,
-        Contains-permutation (edge_tops es) tops q moved
-            (contains (edge_tops es) q (picked_has (λ e. true) (λ n e. sweep_place (upward e).1) 0 es n nowhere inside refl)),
-        fit n nowhere inside,
-      );
-  order = places_in_order tops sorted;
-}
-
--- the ends of the edges, sorted
-pub are_ends : (es : List (Point × Point)) (made ends : Ends) → AreMadeEnds es made → AreReordered made ends → AreSortedEnds es ends
-are_ends es made ends h order = record {
-  begins = are_begins es ends.begins.items h.small h.low
-      (subst (λ bs. IsPermutation bs ends.begins.items) h.begins order.begins) order.begins_sorted;
-  tops = are_tops es ends.tops.items h.top (subst (λ ts. IsPermutation ts ends.tops.items) h.tops order.tops) order.tops_sorted;
-}
+any : Begin
+any = record { key = 0 }
 
 -- the place of the item at the index
 pub place_at : {T : Type 0} (place_of : T → Place) (items : List T) (i : ℕ) (x : T) (q : Place) → i < length items
@@ -357,11 +115,7 @@ range_numbers xs a b le bound h =
     subst (AllPairs (λ m n. m ≢ n)) (sym (map-range begin_number xs a b))
     (range_pairs (λ m n. m ≢ n) (begin_numbers xs) a b le (omega (arith, length-map xs begin_number)) h)
 
--- a number of the list is that of one of its elements
-pub number_in : (xs : List Begin) (n k : ℕ) (d : Begin) → k < length xs → begin_number (get_or xs k d) ≡ n → Contains (begin_numbers xs) n
-number_in xs n k d less same =
-    (k, omega (arith, length-map xs begin_number), get_or-map begin_number xs k d n less ∙ same)
-
+-- a number of the list
 pub record IsNumberOf (xs : List Begin) (n : ℕ) : Type 0 where
   pub index : ℕ
   pub inside : index < length xs
@@ -373,25 +127,22 @@ number_of xs n m =
     record { index = m.0; inside = less; is = λ d. sym (get_or-map begin_number xs m.0 d n less) ∙ m.2 }
 
 -- ---- what a begin tells of its edge
-module _ (es : List (Point × Point)) (b : Begin) (own : IsBeginOf es b) where
-  low_of : (p : Point) → swept_point b.place ≡ p → (upward (get_or es (begin_number b) nowhere)).0 ≡ p
+module _ (swept : List Point) (es : List (Point × Point)) (b : Begin) (own : IsBeginOf swept es b) where
+  low_of : (p : Point) → point_at swept (begin_place b) ≡ p → (upward (get_or es (begin_number b) nowhere)).0 ≡ p
   low_of p at = sym own.point ∙ at
 
-  low_row : (upward (get_or es (begin_number b) nowhere)).0.y ≡ (swept_point b.place).y
+  low_row : (upward (get_or es (begin_number b) nowhere)).0.y ≡ (point_at swept (begin_place b)).y
   low_row = ap (λ (z : Point). z.y) (sym own.point)
-
-  told : int_le (upward (get_or es (begin_number b) nowhere)).1.y (upward (get_or es (begin_number b) nowhere)).0.y ≡ is_level b
-  told = sym (level_back (begin_number b) (get_or es (begin_number b) nowhere) (omega arith)) ∙ ap is_level own.is
 
   rises_of : is_level b ≡ false → (upward (get_or es (begin_number b) nowhere)).0.y <ℤ (upward (get_or es (begin_number b) nowhere)).1.y
   rises_of level = le_false (upward (get_or es (begin_number b) nowhere)).1.y (upward (get_or es (begin_number b) nowhere)).0.y
-      (told ∙ level)
+      (sym own.level ∙ level)
 
   flat_of : is_level b ≡ true → (upward (get_or es (begin_number b) nowhere)).1.y ≤ℤ (upward (get_or es (begin_number b) nowhere)).0.y
   flat_of level = le_true (upward (get_or es (begin_number b) nowhere)).1.y (upward (get_or es (begin_number b) nowhere)).0.y
-      (told ∙ level)
+      (sym own.level ∙ level)
 
-  pub crosses_own : (row : ℤ) → (swept_point b.place).y ≡ row → is_level b ≡ false → CrossesRow es row (begin_number b)
+  pub crosses_own : (row : ℤ) → (point_at swept (begin_place b)).y ≡ row → is_level b ≡ false → CrossesRow es row (begin_number b)
   crosses_own row at level =
       let e = get_or es (begin_number b) nowhere in
       let low : (upward e).0.y ≡ row = low_row ∙ at in
@@ -402,40 +153,43 @@ module _ (es : List (Point × Point)) (b : Begin) (own : IsBeginOf es b) where
       )
 
 -- ---- the edges that begin at one point
-pub group_of : (es : List (Point × Point)) (begins : List Begin) (points : List Point) (low after : ℕ) (p : Place) → AreBegins es begins
-    → IsPlaceRun (begin_places begins) low after p
-    → ((k : ℕ) (d : Place) → k < low → k < length (begin_places begins) → Contains points (swept_point (get_or (begin_places begins) k d)))
-    → ((q : Point) → Contains points q → IsAfter q (swept_point p))
-    → IsBegunGroup es (swept_point p) (slice_range begins low after)
-group_of es begins points low after p h run had passed =
-    let count = length-map begins (λ (b : Begin). b.place) in
+pub group_of : (swept : List Point) (es : List (Point × Point)) (begins : List Begin) (points : List Point) (low after : ℕ) (p : Place)
+    → IsRising IsAfter swept → AreBegins swept es begins → p.key < length swept → IsPlaceRun (begin_places begins) low after p
+    → ((k : ℕ) (d : Place) → k < low → k < length (begin_places begins)
+    → Contains points (point_at swept (get_or (begin_places begins) k d)))
+    → ((q : Point) → Contains points q → IsAfter q (point_at swept p))
+    → IsBegunGroup swept es (point_at swept p) (slice_range begins low after)
+group_of swept es begins points low after p rising h p_inside run had passed =
+    let count = length-map begins begin_place in
     let bound : after ≤ length begins = omega (arith, count, run.bound) in
     record {
-      own = range_all (IsBeginOf es) begins low after run.order bound (λ k d ge lt inside. h.own k d inside);
-      at = range_all (λ b. swept_point b.place ≡ swept_point p) begins low after run.order bound
-          (λ k d ge lt inside. ap swept_point (here k d ge lt inside));
+      own = range_all (IsBeginOf swept es) begins low after run.order bound (λ k d ge lt inside. h.own k d inside);
+      at = range_all (λ b. point_at swept (begin_place b) ≡ point_at swept p) begins low after run.order bound
+          (λ k d ge lt inside. ap (point_at swept) (here k d ge lt inside));
       all = λ n given low_is.
-          let b = begin_of n (get_or es n nowhere) in
-          let m = h.all n given in
-          let less : m.0 < length begins = m.1 in
-          let at : get_or (begin_places begins) m.0 p ≡ p =
-          get_or-map (λ (z : Begin). z.place) begins m.0 b p less ∙ ap (λ (z : Begin). z.place) m.2 ∙ ap sweep_place low_is
-          ∙ place_back p in
-          let inside : m.0 < length (begin_places begins) = omega (arith, count) in
+          let m = number_of begins n (h.all n given) in
+          let b = get_or begins m.index any in
+          let own = h.own m.index any m.inside in
+          let point : point_at swept (begin_place b) ≡ point_at swept p =
+          own.point ∙ ap (λ k. (upward (get_or es k nowhere)).0) (m.is any) ∙ low_is in
+          let at : get_or (begin_places begins) m.index p ≡ p =
+          get_or-map begin_place begins m.index any p m.inside
+          ∙ same_place swept rising (begin_place b) p own.inside p_inside point in
+          let inside : m.index < length (begin_places begins) = omega (arith, count, m.inside) in
           ⊎_elim
-          (λ (before : m.0 < low). absurd (after_irreflexive (swept_point p)
-          (passed (swept_point p) (subst (λ z. Contains points (swept_point z)) at (had m.0 p before inside)))))
-          (λ (ge : low ≤ m.0). ⊎_elim
-          (λ (lt : m.0 < after).
-          let k = m.0 - low in
+          (λ (before : m.index < low). absurd (after_irreflexive (point_at swept p)
+          (passed (point_at swept p) (subst (λ z. Contains points (point_at swept z)) at (had m.index p before inside)))))
+          (λ (ge : low ≤ m.index). ⊎_elim
+          (λ (lt : m.index < after).
+          let k = m.index - low in
           let in_range : k < after - low = omega arith in
-          let back : low + k ≡ m.0 = omega arith in
-          number_in (slice_range begins low after) n k b (omega (arith, range_length begins low after run.order bound))
-          (ap begin_number (get_or-slice_range begins low after k b in_range ∙ ap (λ j. get_or begins j b) back ∙ m.2)
-          ∙ number_back n (get_or es n nowhere) (omega (arith, given, h.small))))
-          (λ (behind : after ≤ m.0). absurd (sooner_irreflexive p (subst (IsSooner p) at (run.behind m.0 p behind inside))))
-          (cases_lt m.0 after))
-          (cases_lt m.0 low);
+          let back : low + k ≡ m.index = omega arith in
+          number_in (slice_range begins low after) n k any (omega (arith, range_length begins low after run.order bound))
+          (ap begin_number (get_or-slice_range begins low after k any in_range ∙ ap (λ j. get_or begins j any) back)
+          ∙ m.is any))
+          (λ (behind : after ≤ m.index). absurd (sooner_irreflexive p (subst (IsSooner p) at (run.behind m.index p behind inside))))
+          (cases_lt m.index after))
+          (cases_lt m.index low);
       levels = λ i j d le less level.
           let in_j : j < after - low = omega (arith, range_length begins low after run.order bound) in
           let in_i : i < after - low = omega arith in
@@ -449,16 +203,15 @@ group_of es begins points low after p h run had passed =
       apart = range_numbers begins low after run.order bound h.apart;
     }
   where
-    here : (k : ℕ) (d : Begin) → low ≤ k → k < after → k < length begins → (get_or begins k d).place ≡ p
-    here k d ge lt inside = sym (get_or-map (λ (z : Begin). z.place) begins k d p inside) ∙ run.same k p ge lt
+    here : (k : ℕ) (d : Begin) → low ≤ k → k < after → k < length begins → begin_place (get_or begins k d) ≡ p
+    here k d ge lt inside = sym (get_or-map begin_place begins k d p inside) ∙ run.same k p ge lt
 
-pub risers_of : (es : List (Point × Point)) (p : Point) (group : List Begin) (index : ℕ) → IsBegunGroup es p group
-    → IsFirstLevel group index
-    → AreRisers es p.y (slice_range group 0 index)
-risers_of es p group index h first = record {
-  own = range_all (IsBeginOf es) group 0 index (omega arith) first.bound (λ k d ge lt inside. h.own k d inside);
+pub risers_of : (swept : List Point) (es : List (Point × Point)) (p : Point) (group : List Begin) (index : ℕ)
+    → IsBegunGroup swept es p group → IsFirstLevel group index → AreRisers swept es p.y (slice_range group 0 index)
+risers_of swept es p group index h first = record {
+  own = range_all (IsBeginOf swept es) group 0 index (omega arith) first.bound (λ k d ge lt inside. h.own k d inside);
   rising = range_all (λ b. is_level b ≡ false) group 0 index (omega arith) first.bound (λ k d ge lt inside. first.before k d lt);
-  at = range_all (λ b. (swept_point b.place).y ≡ p.y) group 0 index (omega arith) first.bound
+  at = range_all (λ b. (point_at swept (begin_place b)).y ≡ p.y) group 0 index (omega arith) first.bound
       (λ k d ge lt inside. ap (λ (z : Point). z.y) (h.at k d inside));
   apart = range_numbers group 0 index (omega arith) first.bound h.apart;
 }
@@ -471,10 +224,10 @@ record IsFront (group : List Begin) (index n : ℕ) : Type 0 where
   pub is : (d : Begin) → begin_number (get_or group place d) ≡ n
 
 -- the edges that rise, and then those that are level
-pub begin_at : (r : Owned) (p : Point) (group : List Begin) (index : ℕ) (old mid new : List ℕ) → IsBegunGroup r.0 p group
-    → IsFirstLevel group index → IsWithRisers r.0 p.y (slice_range group 0 index) old mid
+pub begin_at : (swept : List Point) (r : Owned) (p : Point) (group : List Begin) (index : ℕ) (old mid new : List ℕ)
+    → IsBegunGroup swept r.0 p group → IsFirstLevel group index → IsWithRisers r.0 p.y (slice_range group 0 index) old mid
     → new ≡ mid ++ begin_numbers (slice_range group index (length group)) → IsExtended r p old new
-begin_at r p group index old mid new h first risers is = record {
+begin_at swept r p group index old mid new h first risers is = record {
   added = risers.added ++ levels;
   is = is ∙ ap (λ xs. xs ++ levels) risers.is ∙ append_assoc old risers.added levels;
   begun = record {
@@ -485,18 +238,19 @@ begin_at r p group index old mid new h first risers is = record {
       rising = risers.rising;
       row = λ n m.
           let f = front n (risers.among n m) in
-          subst (CrossesRow r.0 p.y) (f.is any) (crosses_own r.0 (get_or group f.place any) (h.own f.place any f.inside) p.y
+          subst (CrossesRow r.0 p.y) (f.is any) (crosses_own swept r.0 (get_or group f.place any) (h.own f.place any f.inside) p.y
           (ap (λ (z : Point). z.y) (h.at f.place any f.inside)) (first.before f.place any f.early));
       at = λ n m.
           let f = front n (risers.among n m) in
-          subst (HasLow r p) (f.is any) (low_of r.0 (get_or group f.place any) (h.own f.place any f.inside) p (h.at f.place any f.inside));
+          subst (HasLow r p) (f.is any)
+          (low_of swept r.0 (get_or group f.place any) (h.own f.place any f.inside) p (h.at f.place any f.inside));
       all = λ n cross low_is.
           let m = number_of group n (h.all n cross.0 low_is) in
           ⊎_elim
           (λ (early : m.index < index). risers.all n (in_front n m early))
           (λ (late : index ≤ m.index).
           let own = h.own m.index any m.inside in
-          let flat = flat_of r.0 (get_or group m.index any) own (level_from m.index late m.inside) in
+          let flat = flat_of swept r.0 (get_or group m.index any) own (level_from m.index late m.inside) in
           let flat_n : (upward (edge_at r n)).1.y ≤ℤ (upward (edge_at r n)).0.y =
           subst (λ k. (upward (edge_at r k)).1.y ≤ℤ (upward (edge_at r k)).0.y) (m.is any) flat in
           let s = spans_of p.y (edge_at r n) (cross.1 nowhere) in
@@ -518,7 +272,7 @@ begin_at r p group index old mid new h first risers is = record {
         let m = number_of group n (h.all n l.given l.begins) in
         ⊎_elim
         (λ (early : m.index < index).
-        let up = rises_of r.0 (get_or group m.index any) (h.own m.index any m.inside) (first.before m.index any early) in
+        let up = rises_of swept r.0 (get_or group m.index any) (h.own m.index any m.inside) (first.before m.index any early) in
         let up_n : (upward (edge_at r n)).0.y <ℤ (upward (edge_at r n)).1.y =
         subst (λ k. (upward (edge_at r k)).0.y <ℤ (upward (edge_at r k)).1.y) (m.is any) up in
         let flat = l.level in
@@ -535,22 +289,20 @@ begin_at r p group index old mid new h first risers is = record {
   };
 }
   where
-    any : Begin
-    any = record { place = record { key = 0 }; order = 0 }
-
     levels : List ℕ
     levels = begin_numbers (slice_range group index (length group))
 
     level_from : (k : ℕ) → index ≤ k → k < length group → is_level (get_or group k any) ≡ true
     level_from k le inside = h.levels index k any le inside (first.here any (omega arith))
 
-    level_own : (b : Begin) → IsBeginOf r.0 b → swept_point b.place ≡ p → is_level b ≡ true → IsLevelFrom r p (begin_number b)
+    level_own : (b : Begin) → IsBeginOf swept r.0 b → point_at swept (begin_place b) ≡ p → is_level b ≡ true
+        → IsLevelFrom r p (begin_number b)
     level_own b own at level =
         let e = edge_at r (begin_number b) in
-        let low : (upward e).0.y ≡ p.y = ap (λ (z : Point). z.y) (low_of r.0 b own p at) in
-        let flat = flat_of r.0 b own level in
+        let low : (upward e).0.y ≡ p.y = ap (λ (z : Point). z.y) (low_of swept r.0 b own p at) in
+        let flat = flat_of swept r.0 b own level in
         let up = up_rises e in
-        record { given = own.given; begins = low_of r.0 b own p at; level = omega (arith, ints, low, flat, up) }
+        record { given = own.given; begins = low_of swept r.0 b own p at; level = omega (arith, ints, low, flat, up) }
 
     front : (n : ℕ) → Contains (begin_numbers (slice_range group 0 index)) n → IsFront group index n
     front n m =
@@ -589,20 +341,21 @@ few_risers es row group old new few is = record {
     at_most_one (b ∷ []) less = tt
     at_most_one (b ∷ c ∷ xs) less = absurd (omega arith)
 
-pub crossing_all : (es : List (Point × Point)) (row : ℤ) (group : List Begin) → AreRisers es row group
+pub crossing_all : (swept : List Point) (es : List (Point × Point)) (row : ℤ) (group : List Begin) → AreRisers swept es row group
     → (k : ℕ) (d : Begin) → k < length group → CrossesRow es row (begin_number (get_or group k d))
-crossing_all es row group h k d less =
-    crosses_own es (get_or group k d) (h.own k d less) row (h.at k d less) (h.rising k d less)
+crossing_all swept es row group h k d less =
+    crosses_own swept es (get_or group k d) (h.own k d less) row (h.at k d less) (h.rising k d less)
 
 -- where one edge more crosses the row
-pub crossing_push : (es : List (Point × Point)) (row : ℤ) (group : List Begin) (i : ℕ) (d : Begin) (old : List Crossing) (c : Crossing)
-    (e : Point × Point) → i < length group → AreRisers es row group → e ≡ get_or es (begin_number (get_or group i d)) e
+pub crossing_push : (swept : List Point) (es : List (Point × Point)) (row : ℤ) (group : List Begin) (i : ℕ) (d : Begin)
+    (old : List Crossing) (c : Crossing) (e : Point × Point) → i < length group → AreRisers swept es row group
+    → e ≡ get_or es (begin_number (get_or group i d)) e
     → c.number ≡ begin_number (get_or group i d) → c.x ≡ crossing row e → c.rise ≡ rise e
     → map (λ z. z.number) old ≡ begin_numbers (take i group) → All (IsCrossingOf es row) old
     → (map (λ z. z.number) (old ++ c ∷ []) ≡ begin_numbers (take (i + 1) group)) × All (IsCrossingOf es row) (old ++ c ∷ [])
-crossing_push es row group i d old c e less risers is_e number x up numbers places =
+crossing_push swept es row group i d old c e less risers is_e number x up numbers places =
     let n = begin_number (get_or group i d) in
-    let cross = crossing_all es row group risers i d less in
+    let cross = crossing_all swept es row group risers i d less in
     let any : (f : Point × Point) → e ≡ get_or es n f = λ f. is_e ∙ get_or_default es n e f cross.0 in (
       map-append (λ (z : Crossing). z.number) old (c ∷ []) ∙ (λ k. numbers k ++ number k ∷ [])
           ∙ sym (map_more begin_number group i d less),
@@ -648,33 +401,39 @@ module _ (es : List (Point × Point)) (row : ℤ) (rising : IsRising IsEdgeBefor
       }
 
 -- ---- the stops so far
--- the places before the index are among the points, and all points come before those from it on
-pub record IsJoined (places : List Place) (points : List Point) (i : ℕ) : Type 0 where
-  pub had : (k : ℕ) (d : Place) → k < i → k < length places → Contains points (swept_point (get_or places k d))
-  pub ahead : (q : Point) (k : ℕ) (d : Place) → Contains points q → i ≤ k → k < length places → IsAfter q (swept_point (get_or places k d))
+begins_inside : (swept : List Point) (es : List (Point × Point)) (begins : List Begin) → AreBegins swept es begins
+    → AreInside swept (begin_places begins)
+begins_inside swept es begins h k d less =
+    let inside : k < length begins = omega (arith, less, length-map begins begin_place) in
+    subst (λ (q : Place). q.key < length swept) (sym (get_or-map begin_place begins k any d inside)) (h.own k any inside).inside
+
+-- the points of the places before the index are among those so far, and all those come before the places from it on
+pub record IsJoined (swept : List Point) (places : List Place) (points : List Point) (i : ℕ) : Type 0 where
+  pub had : (k : ℕ) (d : Place) → k < i → k < length places → Contains points (point_at swept (get_or places k d))
+  pub ahead : (q : Point) (k : ℕ) (d : Place) → Contains points q → i ≤ k → k < length places
+      → IsAfter q (point_at swept (get_or places k d))
 
 only : {A : Type 0} (x y : A) → Contains (x ∷ []) y → x ≡ y
 only x y m = ⊎_elim (λ (same : x ≡ y). same) (λ none. absurd none) (has (x ∷ []) y m)
 
-joined_more : (places : List Place) (points : List Point) (i j : ℕ) (p : Place) → IsJoined places points i → IsPlaceRun places i j p
-    → IsJoined places (points ++ swept_point p ∷ []) j
-joined_more places points i j p h run = record {
+joined_more : (swept : List Point) (places : List Place) (points : List Point) (i j : ℕ) (p : Place) → IsRising IsAfter swept
+    → AreInside swept places → IsJoined swept places points i → IsPlaceRun places i j p
+    → IsJoined swept places (points ++ point_at swept p ∷ []) j
+joined_more swept places points i j p rising all_inside h run = record {
   had = λ k d less inside. ⊎_elim
-      (λ (before : k < i). Contains-append_left points (swept_point p ∷ []) (swept_point (get_or places k d)) (h.had k d before inside))
-      (λ (ge : i ≤ k). subst (λ (z : Place). Contains (points ++ swept_point p ∷ []) (swept_point z)) (sym (run.same k d ge less))
-      (Contains-append_right points (swept_point p ∷ []) (swept_point p) (contains (swept_point p ∷ []) (swept_point p) (inl refl))))
+      (λ (before : k < i). Contains-append_left points (here ∷ []) (point_at swept (get_or places k d)) (h.had k d before inside))
+      (λ (ge : i ≤ k). subst (λ (z : Place). Contains (points ++ here ∷ []) (point_at swept z)) (sym (run.same k d ge less))
+      (Contains-append_right points (here ∷ []) here (contains (here ∷ []) here (inl refl))))
       (cases_lt k i);
   ahead = λ q k d m le inside. ⊎_elim
       (λ (old : Contains points q). h.ahead q k d old (omega (arith, run.order)) inside)
-      (λ (new : Contains (swept_point p ∷ []) q). subst (λ z. IsAfter z (swept_point (get_or places k d))) (only (swept_point p) q new)
-      (sooner_after p (get_or places k d) (run.behind k d le inside)))
-      (Contains-append_cases points (swept_point p ∷ []) q m);
+      (λ (new : Contains (here ∷ []) q). subst (λ z. IsAfter z (point_at swept (get_or places k d))) (only here q new)
+      (sooner_after swept rising p (get_or places k d) (all_inside k d inside) (run.behind k d le inside)))
+      (Contains-append_cases points (here ∷ []) q m);
 }
-
-rising_push : (xs : List Point) (x : Point) → IsRising IsAfter xs → ((y : Point) → Has xs y → IsAfter y x) → IsRising IsAfter (xs ++ x ∷ [])
-rising_push [] x h b = tt
-rising_push (y ∷ []) x h b = (b y (inl refl), tt)
-rising_push (y ∷ z ∷ zs) x h b = (h.0, rising_push (z ∷ zs) x h.1 (λ v m. b v (inr m)))
+  where
+    here : Point
+    here = point_at swept p
 
 abbrev pub points_of : List Stop → List Point
 points_of = map (λ s. s.point)
@@ -685,42 +444,54 @@ pub record IsSweepStop (r : Owned) (begun : List ℕ) (s : Stop) : Type 0 where
   pub bound : s.to ≤ length begun
   pub begun_at : BeginAt r s.point (slice_range begun s.from s.to)
 
-pub record AreStopsTo (r : Owned) (lows tops : List Place) (low top : ℕ) (list : List Stop) (begun : List ℕ) : Type 0 where
+pub record AreStopsTo (swept : List Point) (r : Owned) (lows tops : List Place) (low top : ℕ) (list : List Stop) (begun : List ℕ)
+    : Type 0 where
   pub low_bound : low ≤ length lows
   pub top_bound : top ≤ length tops
   pub rising : IsRising IsAfter (points_of list)
   pub some : (p : Point) → Contains (points_of list) p → IsEndPoint r p
-  pub low_joined : IsJoined lows (points_of list) low
-  pub top_joined : IsJoined tops (points_of list) top
+  pub low_joined : IsJoined swept lows (points_of list) low
+  pub top_joined : IsJoined swept tops (points_of list) top
   pub own : All (IsSweepStop r begun) list
 
--- the next place is after all points so far
-pub passed_all : (r : Owned) (lows tops : List Place) (low top : ℕ) (list : List Stop) (begun : List ℕ) (p : Place)
-    → AreStopsTo r lows tops low top list begun → IsNextPlace lows low tops top p → (q : Point) → Contains (points_of list) q
-    → IsAfter q (swept_point p)
-passed_all r lows tops low top list begun p h next q m = ⊎_elim
-    (λ (l : IsHead lows low p). subst (λ (z : Place). IsAfter q (swept_point z)) (l.1 p) (h.low_joined.ahead q low p m (omega arith) l.0))
-    (λ (t : IsHead tops top p). subst (λ (z : Place). IsAfter q (swept_point z)) (t.1 p) (h.top_joined.ahead q top p m (omega arith) t.0))
+-- the next place is among the points
+pub place_inside : (swept : List Point) (es : List (Point × Point)) (begins : List Begin) (tops : List Place) (low top : ℕ) (p : Place)
+    → AreBegins swept es begins → AreTops swept es tops → IsNextPlace (begin_places begins) low tops top p → p.key < length swept
+place_inside swept es begins tops low top p begin_facts top_facts next = ⊎_elim
+    (λ (l : IsHead (begin_places begins) low p).
+    subst (λ (q : Place). q.key < length swept) (l.1 p) (begins_inside swept es begins begin_facts low p l.0))
+    (λ (t : IsHead tops top p). subst (λ (q : Place). q.key < length swept) (t.1 p) (top_facts.own top p t.0).inside)
+    next.one
+
+-- it is after all points so far
+pub passed_all : (swept : List Point) (r : Owned) (lows tops : List Place) (low top : ℕ) (list : List Stop) (begun : List ℕ) (p : Place)
+    → AreStopsTo swept r lows tops low top list begun → IsNextPlace lows low tops top p → (q : Point) → Contains (points_of list) q
+    → IsAfter q (point_at swept p)
+passed_all swept r lows tops low top list begun p h next q m = ⊎_elim
+    (λ (l : IsHead lows low p).
+    subst (λ (z : Place). IsAfter q (point_at swept z)) (l.1 p) (h.low_joined.ahead q low p m (omega arith) l.0))
+    (λ (t : IsHead tops top p).
+    subst (λ (z : Place). IsAfter q (point_at swept z)) (t.1 p) (h.top_joined.ahead q top p m (omega arith) t.0))
     next.one
 
 -- and an edge begins or ends there
-end_point : (r : Owned) (begins : List Begin) (tops : List Place) (low top : ℕ) (p : Place) → AreBegins r.0 begins → AreTops r.0 tops
-    → IsNextPlace (begin_places begins) low tops top p → IsEndPoint r (swept_point p)
-end_point r begins tops low top p begin_facts top_facts next = ⊎_elim
+end_point : (swept : List Point) (r : Owned) (begins : List Begin) (tops : List Place) (low top : ℕ) (p : Place)
+    → AreBegins swept r.0 begins → AreTops swept r.0 tops → IsNextPlace (begin_places begins) low tops top p
+    → IsEndPoint r (point_at swept p)
+end_point swept r begins tops low top p begin_facts top_facts next = ⊎_elim
     (λ (l : IsHead (begin_places begins) low p).
-    let d : Begin = record { place = p; order = 0 } in
-    let inside : low < length begins = omega (arith, l.0, length-map begins (λ (b : Begin). b.place)) in
-    let b = get_or begins low d in
-    let own = begin_facts.own low d inside in
-    let at : swept_point b.place ≡ swept_point p =
-    ap swept_point (sym (get_or-map (λ (z : Begin). z.place) begins low d p inside) ∙ l.1 p) in
-    record { number = begin_number b; given = own.given; at = inl (low_of r.0 b own (swept_point p) at) })
+    let inside : low < length begins = omega (arith, l.0, length-map begins begin_place) in
+    let b = get_or begins low any in
+    let own = begin_facts.own low any inside in
+    let at : point_at swept (begin_place b) ≡ point_at swept p =
+    ap (point_at swept) (sym (get_or-map begin_place begins low any p inside) ∙ l.1 p) in
+    record { number = begin_number b; given = own.given; at = inl (low_of swept r.0 b own (point_at swept p) at) })
     (λ (t : IsHead tops top p).
     let own = top_facts.own top p t.0 in
     record {
       number = own.number;
       given = own.given;
-      at = inr (sym own.point ∙ ap swept_point (t.1 p));
+      at = inr (sym own.point ∙ ap (point_at swept) (t.1 p));
     })
     next.one
 
@@ -741,66 +512,73 @@ stop_kept r begun added s h = record {
   begun_at = subst (BeginAt r s.point) (sym (range_kept begun added s.from s.to h.order h.bound)) h.begun_at;
 }
 
-pub stops_more : (r : Owned) (begins : List Begin) (tops : List Place) (low top after over : ℕ) (list more : List Stop) (old new : List ℕ)
-    (p : Place) (s : Stop) → AreBegins r.0 begins → AreTops r.0 tops → AreStopsTo r (begin_places begins) tops low top list old
-    → IsNextPlace (begin_places begins) low tops top p → IsPlaceRun (begin_places begins) low after p → IsPlaceRun tops top over p
-    → IsExtended r (swept_point p) old new → s.point ≡ swept_point p → s.from ≡ length old → s.to ≡ length new → more ≡ list ++ s ∷ []
-    → AreStopsTo r (begin_places begins) tops after over more new
-stops_more r begins tops low top after over list more old new p s begin_facts top_facts h next run_low run_top extended at from to is =
-    let points : points_of more ≡ points_of list ++ swept_point p ∷ [] =
+pub stops_more : (swept : List Point) (r : Owned) (begins : List Begin) (tops : List Place) (low top after over : ℕ) (list more : List Stop)
+    (old new : List ℕ) (p : Place) (s : Stop) → IsRising IsAfter swept → AreBegins swept r.0 begins → AreTops swept r.0 tops
+    → AreStopsTo swept r (begin_places begins) tops low top list old → IsNextPlace (begin_places begins) low tops top p
+    → IsPlaceRun (begin_places begins) low after p → IsPlaceRun tops top over p → IsExtended r (point_at swept p) old new
+    → s.point ≡ point_at swept p → s.from ≡ length old → s.to ≡ length new → more ≡ list ++ s ∷ []
+    → AreStopsTo swept r (begin_places begins) tops after over more new
+stops_more swept r begins tops low top after over list more old new p s rising begin_facts top_facts h next run_low run_top extended
+    at from to is =
+    let points : points_of more ≡ points_of list ++ here ∷ [] =
     ap points_of is ∙ map-append (λ (z : Stop). z.point) list (s ∷ []) ∙ ap (λ q. points_of list ++ q ∷ []) at in
     let all : new ≡ old ++ extended.added = extended.is in
-    let passed = passed_all r (begin_places begins) tops low top list old p h next in
-    let here : IsSweepStop r new s = record {
+    let passed = passed_all swept r (begin_places begins) tops low top list old p h next in
+    let stop : IsSweepStop r new s = record {
       order = omega (arith, from, to, ap length all, length-append old extended.added);
       bound = omega (arith, to);
       begun_at = coe 1 0 (z. BeginAt r (at z) (slice_range (all z) (from z) (to_all z)))
-          (subst (BeginAt r (swept_point p)) (sym (range_added old extended.added)) extended.begun);
+          (subst (BeginAt r here) (sym (range_added old extended.added)) extended.begun);
     } in
     record {
       low_bound = run_low.bound;
       top_bound = run_top.bound;
       rising = subst (IsRising IsAfter) (sym points)
-          (rising_push (points_of list) (swept_point p) h.rising (λ q m. passed q (contains (points_of list) q m)));
+          (rising_push IsAfter (points_of list) here h.rising (λ q m. passed q (contains (points_of list) q m)));
       some = λ q m. ⊎_elim
           (λ (before : Contains (points_of list) q). h.some q before)
-          (λ (new_one : Contains (swept_point p ∷ []) q).
-          subst (IsEndPoint r) (only (swept_point p) q new_one) (end_point r begins tops low top p begin_facts top_facts next))
-          (Contains-append_cases (points_of list) (swept_point p ∷ []) q (subst (λ ps. Contains ps q) points m));
-      low_joined = subst (λ ps. IsJoined (begin_places begins) ps after) (sym points)
-          (joined_more (begin_places begins) (points_of list) low after p h.low_joined run_low);
-      top_joined = subst (λ ps. IsJoined tops ps over) (sym points) (joined_more tops (points_of list) top over p h.top_joined run_top);
+          (λ (new_one : Contains (here ∷ []) q).
+          subst (IsEndPoint r) (only here q new_one) (end_point swept r begins tops low top p begin_facts top_facts next))
+          (Contains-append_cases (points_of list) (here ∷ []) q (subst (λ ps. Contains ps q) points m));
+      low_joined = subst (λ ps. IsJoined swept (begin_places begins) ps after) (sym points)
+          (joined_more swept (begin_places begins) (points_of list) low after p rising (begins_inside swept r.0 begins begin_facts)
+          h.low_joined run_low);
+      top_joined = subst (λ ps. IsJoined swept tops ps over) (sym points)
+          (joined_more swept tops (points_of list) top over p rising (λ k d less. (top_facts.own k d less).inside) h.top_joined run_top);
       own = subst (All (IsSweepStop r new)) (sym is) (All-push (IsSweepStop r new) list s
           (λ k d less. subst (λ b. IsSweepStop r b (get_or list k d)) (sym all)
           (stop_kept r old extended.added (get_or list k d) (h.own k d less)))
-          here);
+          stop);
     }
   where
+    here : Point
+    here = point_at swept p
+
     to_all : s.to ≡ length (old ++ extended.added)
     to_all = to ∙ ap length extended.is
 
-pub stops_done : (r : Owned) (begins : List Begin) (tops : List Place) (low top : ℕ) (stops : Stops) → AreBegins r.0 begins
-    → AreTops r.0 tops → AreStopsTo r (begin_places begins) tops low top stops.list.items stops.begun.items
+pub stops_done : (swept : List Point) (r : Owned) (begins : List Begin) (tops : List Place) (low top : ℕ) (stops : Stops)
+    → AreBegins swept r.0 begins → AreTops swept r.0 tops
+    → AreStopsTo swept r (begin_places begins) tops low top stops.list.items stops.begun.items
     → length (begin_places begins) ≤ low → length tops ≤ top → AreStops r stops
-stops_done r begins tops low top stops begin_facts top_facts h all_low all_top = record {
+stops_done swept r begins tops low top stops begin_facts top_facts h all_low all_top = record {
   points = record {
     rising = h.rising;
     all = λ p e. ⊎_elim
         (λ (low_is : HasLow r p e.number).
-        let b = begin_of e.number (edge_at r e.number) in
-        let m = begin_facts.all e.number e.given in
-        let own : IsBeginOf r.0 b = subst (IsBeginOf r.0) m.2 (begin_facts.own m.0 b m.1) in
-        let at : get_or (begin_places begins) m.0 b.place ≡ b.place =
-        get_or-map (λ (z : Begin). z.place) begins m.0 b b.place m.1 ∙ ap (λ (z : Begin). z.place) m.2 in
-        let inside : m.0 < length (begin_places begins) = omega (arith, m.1, length-map begins (λ (z : Begin). z.place)) in
-        let back = number_back e.number (edge_at r e.number) (omega (arith, e.given, begin_facts.small)) in
-        let low : swept_point b.place ≡ p = own.point ∙ ap (λ k. (upward (edge_at r k)).0) back ∙ low_is in
-        subst (Contains (points_of stops.list.items)) (ap swept_point at ∙ low)
-        (h.low_joined.had m.0 b.place (omega arith) inside))
+        let m = number_of begins e.number (begin_facts.all e.number e.given) in
+        let b = get_or begins m.index any in
+        let own = begin_facts.own m.index any m.inside in
+        let at = get_or-map begin_place begins m.index any (begin_place b) m.inside in
+        let inside : m.index < length (begin_places begins) = omega (arith, m.inside, length-map begins begin_place) in
+        let low : point_at swept (begin_place b) ≡ p =
+        own.point ∙ ap (λ k. (upward (edge_at r k)).0) (m.is any) ∙ low_is in
+        subst (Contains (points_of stops.list.items)) (ap (point_at swept) at ∙ low)
+        (h.low_joined.had m.index (begin_place b) (omega (arith, inside, all_low)) inside))
         (λ (high_is : HasHigh r p e.number).
         let t = top_facts.all e.number e.given in
         let m = t.1 in
-        subst (Contains (points_of stops.list.items)) (ap swept_point m.2 ∙ t.2 ∙ high_is)
+        subst (Contains (points_of stops.list.items)) (ap (point_at swept) m.2 ∙ t.2 ∙ high_is)
         (h.top_joined.had m.0 t.0 (omega (arith, m.1)) m.1))
         e.at;
     some = h.some;
@@ -837,14 +615,3 @@ module _ (list : List Stop) (rising : IsRising IsAfter (points_of list)) where
       let up = rows_upward i j d le less in
       let there = lt_true (get_or list j d).point.y row below in
       true_lt (get_or list i d).point.y row (omega (arith, linear, up, there))
-
--- ---- what holds of each edge so far
-pub one_more_edge : (P : Point × Point → Type 0) (edges : List (Point × Point)) (n : ℕ) (e : Point × Point) → n < length edges
-    → e ≡ get_or edges n e → P e → ((k : ℕ) (d : Point × Point) → k < n → P (get_or edges k d))
-    → (k : ℕ) (d : Point × Point) → k < n + 1 → P (get_or edges k d)
-one_more_edge P edges n e less is_e here so_far k d lt = ⊎_elim
-    (λ (before : k < n). so_far k d before)
-    (λ (ge : n ≤ k).
-    let same : n ≡ k = omega arith in
-    subst P (is_e ∙ get_or_default edges n e d less ∙ ap (λ i. get_or edges i d) same) here)
-    (cases_lt k n)

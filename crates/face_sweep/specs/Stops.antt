@@ -9,7 +9,7 @@ use Rattle.snap_chains.specs.Rounded.{Owned}
 use Rattle.face_rows.specs.Lines.{nowhere}
 use Rattle.face_rows.specs.Rows.{IsLeftOf, upward}
 use Rattle.face_sweep.specs.Points.{AreBegunAt, IsAfter, IsEndPoint, IsLevelFrom}
-use Rattle.face_sweep.specs.Ends.{IsBeginOf, IsNoLater, IsSooner, begin_numbers, is_level, swept_point}
+use Rattle.face_sweep.specs.Ends.{IsBeginOf, IsNoLater, IsSooner, begin_numbers, begin_place, is_level, point_at}
 use Rattle.face_sweep.specs.declared.ends.Begin.{Begin}
 use Rattle.face_sweep.specs.declared.ends.Place.{Place}
 use Rattle.face_sweep.specs.declared.stops.Stop.{Stop}
@@ -67,19 +67,19 @@ pub record IsPlaceRun (places : List Place) (from to : ℕ) (p : Place) : Type 0
   pub behind : (k : ℕ) (d : Place) → to ≤ k → k < length places → IsSooner p (slice_index_or places k d)
 
 -- ---- the edges that begin at one point
-pub record IsBegunGroup (edges : List (Point × Point)) (p : Point) (group : List Begin) : Type 0 where
-  pub own : All (IsBeginOf edges) group
-  pub at : All (λ b. swept_point b.place ≡ p) group
+pub record IsBegunGroup (points : List Point) (edges : List (Point × Point)) (p : Point) (group : List Begin) : Type 0 where
+  pub own : All (IsBeginOf points edges) group
+  pub at : All (λ b. point_at points (begin_place b) ≡ p) group
   pub all : (n : ℕ) → n < length edges → (upward (slice_index_or edges n nowhere)).0 ≡ p → Contains (begin_numbers group) n
   pub levels : (i j : ℕ) (d : Begin) → i ≤ j → j < length group → is_level (slice_index_or group i d) ≡ true
       → is_level (slice_index_or group j d) ≡ true
   pub apart : AllPairs (λ m n. m ≢ n) (begin_numbers group)
 
 -- edges that begin in the row and aren't level, each once
-pub record AreRisers (edges : List (Point × Point)) (row : ℤ) (group : List Begin) : Type 0 where
-  pub own : All (IsBeginOf edges) group
+pub record AreRisers (points : List Point) (edges : List (Point × Point)) (row : ℤ) (group : List Begin) : Type 0 where
+  pub own : All (IsBeginOf points edges) group
   pub rising : All (λ b. is_level b ≡ false) group
-  pub at : All (λ b. (swept_point b.place).y ≡ row) group
+  pub at : All (λ b. (point_at points (begin_place b)).y ≡ row) group
   pub apart : AllPairs (λ m n. m ≢ n) (begin_numbers group)
 
 -- the edges from the index on are level, and those before it aren't

@@ -15,7 +15,8 @@
 //!
 //! - [`Stops`] has all points at which edges begin or end, in the order of the sweep, with the edges that begin
 //!   at each: those that rise, from left to right, and then a level one (`specs/Stops.antt`). They are made of
-//!   the edges' ends as numbers that are sorted (`specs/Ends.antt`), in threads if the caller has a runtime.
+//!   the places at which edges end, which are flagged, and those at which they begin, as numbers that are sorted
+//!   (`specs/Ends.antt`), in threads if the caller has a runtime.
 //! - [`place_of_point`] searches the list for a point, from a hint on: left of the place of the stop before, which is
 //!   near in a row. It compares two products for each edge that it looks at. [`group_end`] is where the edges
 //!   that end at the point end, and [`replace`] puts others in their place.

@@ -8,17 +8,19 @@ ghost use Rattle.std.specs.Prelude.{
   IfNone,
   IfOk,
   IfSome,
+  List,
   OnOk,
   int_lt,
   length,
   slice_range,
 };
 ghost use Rattle.lay_point.specs.Rising.{IsRising};
+ghost use Rattle.lay_point.specs.declared.point.Point.{Point};
 ghost use Rattle.face_rows.specs.Crossings.{IsCrossingOf};
 ghost use Rattle.face_rows.specs.Laws.{AreLesserFirst};
 ghost use Rattle.face_sweep.specs.Points.{IsAfter};
 ghost use Rattle.face_sweep.specs.declared.ends.Place.{Place};
-ghost use Rattle.face_sweep.specs.Ends.{AreBegins, AreSortedEnds, ArePlacesInOrder, AreTops, begin_numbers, begin_places};
+ghost use Rattle.face_sweep.specs.Ends.{AreSortedEnds, ArePlacesInOrder, begin_numbers, begin_place, begin_places};
 ghost use Rattle.face_sweep.specs.Stops.{
   AreRisers,
   AreStops,
@@ -89,10 +91,10 @@ impl StandsAt for Place {
 }
 
 impl StandsAt for Begin {
-    ghost place_of = { λ begin. begin.place };
+    ghost place_of = { begin_place };
 
     fn stands_at(&self) -> Place {
-        self.place
+        self.place()
     }
 }
 
@@ -104,7 +106,7 @@ fn next_place(begins: &[Begin], low: usize, tops: &[Place], top: usize) -> Optio
     if low >= begins.len() {
         return tops.get(top).copied();
     }
-    let place = begins[low].place;
+    let place = begins[low].place();
     if top >= tops.len() || place.is_before(tops[top]) {
         Some(place)
     } else {
@@ -154,7 +156,7 @@ fn crossings_of(
     group: &[Begin],
     row: i32,
 ) -> Result<Vec<Crossing>, AllocError>
-    requires { AreRisers edges.now row group.now }
+    requires { (points : List Point) × AreRisers points edges.now row group.now }
     ensures numbers { IfOk result (λ crossings. map (λ c. c.number) crossings.items ≡ begin_numbers group.now) }
     ensures places { IfOk result (λ crossings. All (IsCrossingOf edges.now row) crossings.items) }
 {
@@ -184,7 +186,7 @@ fn put_rising(
     row: i32,
     begun: &mut Vec<usize>,
 ) -> Result<(), AllocError>
-    requires { AreRisers edges.now.0 row group.now }
+    requires { (points : List Point) × AreRisers points edges.now.0 row group.now }
     ensures { OnOk result (IsWithRisers edges.now.0 row group.now begun.old.items begun.new.items) }
 {
     if group.len() < 2 {
@@ -205,7 +207,7 @@ fn put_begun(
     point: Point,
     begun: &mut Vec<usize>,
 ) -> Result<(), AllocError>
-    requires { IsBegunGroup edges.now.0 point group.now }
+    requires { (points : List Point) × IsBegunGroup points edges.now.0 point group.now }
     ensures { OnOk result (IsExtended edges.now point begun.old.items begun.new.items) }
 {
     let level = first_level(group);
@@ -214,26 +216,27 @@ fn put_begun(
     Ok(())
 }
 
-/// Returns the stops of the edges that begin there.
+/// Returns the stops of the edges that begin and end at these places among the points.
 fn stops_at(
     alloc: Global,
     edges: &CleanEdges,
-    begins: &[Begin],
-    tops: &[Place],
+    points: &[Point],
+    ends: &Ends,
 ) -> Result<Stops, AllocError>
-    requires begins { AreBegins edges.now.0 begins.now }
-    requires tops { AreTops edges.now.0 tops.now }
+    requires { AreSortedEnds points.now edges.now.0 ends.now }
     ensures { IfOk result (AreStops edges.now) }
 {
-    let mut list = Vec::with_capacity(alloc, begins.len())?;
+    let (begins, tops) = (ends.begins.as_slice(), ends.tops.as_slice());
+    let mut list = Vec::with_capacity(alloc, points.len())?;
     let mut begun = Vec::with_capacity(alloc, begins.len())?;
     let (mut low, mut top) = (0, 0);
     while let Some(place) = next_place(begins, low, tops, top) {
         let after = run_end(begins, low, place);
         let from = begun.len();
-        put_begun(alloc, edges, &begins[low..after], place.point(), &mut begun)?;
+        let point = points[place.key as usize];
+        put_begun(alloc, edges, &begins[low..after], point, &mut begun)?;
         list.push(Stop {
-            point: place.point(),
+            point,
             from,
             to: begun.len(),
         })?;
@@ -243,43 +246,36 @@ fn stops_at(
     Ok(Stops { list, begun })
 }
 
-/// Returns the stops of edges that begin and end there.
-fn stops_of(alloc: Global, edges: &CleanEdges, ends: &Ends) -> Result<Stops, AllocError>
-    requires { AreSortedEnds edges.now.0 ends.now }
-    ensures { IfOk result (AreStops edges.now) }
-{
-    stops_at(alloc, edges, ends.begins.as_slice(), ends.tops.as_slice())
-}
-
 impl Stops {
     /// Returns the stops of the edges.
     ///
     /// # Errors
     ///
-    /// `NoMemory`, if an allocation fails.
+    /// `NoMemory`, if an allocation fails, and where there are more than 2^31 edges or more than 2^32 points.
     ///
     /// # Cost
     ///
-    /// A sort of the edges' ends.
+    /// A sort of where the edges begin.
     pub fn of_edges(alloc: Global, edges: &CleanEdges) -> Result<Stops, NoMemory>
         ensures stops { IfOk result (AreStops edges.now) }
         ensures lesser { IfOk result (λ stops. AreLesserFirst edges.now.0) }
     {
-        let ends = Ends::of_edges(alloc, edges.edges())?;
-        let stops = stops_of(alloc, edges, &ends.sorted())?;
+        let order = edges.order();
+        let ends = Ends::of_edges(alloc, edges.edges(), order)?;
+        let stops = stops_at(alloc, edges, order.points(), &ends)?;
         Ok(stops)
     }
 
-    /// Returns the same as `of_edges`. The edges' ends are found in two threads, and sorted in as many as there are
-    /// processors.
+    /// Returns the same as `of_edges`. The edges' ends are found in two threads, and where they begin is sorted in as
+    /// many as there are processors.
     ///
     /// # Errors
     ///
-    /// `NoMemory`, if an allocation fails.
+    /// `NoMemory`, if an allocation fails, and where there are more than 2^31 edges or more than 2^32 points.
     ///
     /// # Cost
     ///
-    /// A sort of the edges' ends.
+    /// A sort of where the edges begin.
     pub fn of_edges_in_threads(
         rt: &(impl Threads + Sync),
         alloc: Global,
@@ -288,8 +284,9 @@ impl Stops {
         ensures stops { IfOk result (AreStops edges.now) }
         ensures lesser { IfOk result (λ stops. AreLesserFirst edges.now.0) }
     {
-        let ends = Ends::in_threads(rt, alloc, edges.edges())?;
-        let stops = stops_of(alloc, edges, &ends)?;
+        let order = edges.order();
+        let ends = Ends::in_threads(rt, alloc, edges.edges(), order)?;
+        let stops = stops_at(alloc, edges, order.points(), &ends)?;
         Ok(stops)
     }
 

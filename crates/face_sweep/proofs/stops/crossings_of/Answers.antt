@@ -14,11 +14,12 @@ loop-begin-preserved c =
     let group = c.args.group.now in
     let row = to_z w32 (of_z w32 c.args.row) in
     let at : row ≡ c.args.row = to_z-of_z w32 c.args.row c.ranges.row in
-    let risers = subst (λ z. AreRisers es z group) (sym at) c.requires in
-    let any : Begin = record { place = record { key = 0 }; order = 0 } in
+    let points = c.requires.0 in
+    let risers = subst (λ z. AreRisers points es z group) (sym at) c.requires.1 in
+    let any : Begin = record { key = 0 } in
     let is_number = c.number-number.ensures in
     let e = c.index-edges-number.result in
-    let next = crossing_push es row group c.loop-begin.begin-index any c.loop-begin.crossings.items c.new.result e
+    let next = crossing_push points es row group c.loop-begin.begin-index any c.loop-begin.crossings.items c.new.result e
     c.loop-begin-test.true risers (subst (λ n. e ≡ get_or es n e) is_number c.index-edges-number.is)
     (c.new.ensures.number ∙ is_number) c.new.ensures.x c.new.ensures.rise
     c.loop-begin.invariant.numbers c.loop-begin.invariant.places in

@@ -12,7 +12,9 @@ put_rising-requires c =
     let level = c.first_level-level.result in
     let fits : FitsSigned w32 p.y = search rules in
     let at : to_z w32 (of_z w32 p.y) ≡ p.y = to_z-of_z w32 p.y fits in
-    coe 1 0 (i. AreRisers es (at i) (sym (range_front group level) i)) (risers_of es p group level c.requires c.first_level-level.ensures)
+    let points = c.requires.0 in
+    let risers = risers_of points es p group level c.requires.1 c.first_level-level.ensures in
+    (points, coe 1 0 (i. AreRisers points es (at i) (sym (range_front group level) i)) risers)
 
 pub returns : goal.returns
 returns c =
@@ -25,4 +27,5 @@ returns c =
     let fits : FitsSigned w32 p.y = search rules in
     let at : to_z w32 (of_z w32 p.y) ≡ p.y = to_z-of_z w32 p.y fits in
     let risers = coe 0 1 (i. IsWithRisers r.0 (at i) (sym (range_front group level) i) old mid) c.in_ok-put_rising.ensures in
-    begin_at r p group level old mid c.put_numbers.new.begun.items c.requires c.first_level-level.ensures risers c.in_ok-put_numbers.ensures
+    begin_at c.requires.0 r p group level old mid c.put_numbers.new.begun.items c.requires.1 c.first_level-level.ensures risers
+    c.in_ok-put_numbers.ensures

@@ -29,5 +29,5 @@ returns c =
     let places = coe 0 1 (i. All (IsCrossingOf (same i) (at i)) c.in_ok-crossings.crossings.items) c.in_ok-crossings.ensures.places in
     let is : c.put_crossings.new.begun.items ≡ c.args.begun.now.items ++ map (λ (z : Crossing). z.number) sorted = search rules in
     many_risers edges c.args.row c.edges.ensures.rising c.edges.ensures.clean group c.in_ok-crossings.crossings.items sorted
-    c.args.begun.now.items c.put_crossings.new.begun.items c.requires.apart c.in_ok-crossings.ensures.numbers places
+    c.args.begun.now.items c.put_crossings.new.begun.items c.requires.1.apart c.in_ok-crossings.ensures.numbers places
     c.sort_unstable_by.ensures.permutation order is

@@ -1,9 +1,0 @@
-use Rattle.std.proofs.Common.{subst}
-use Rattle.face_sweep.specs.Ends.{AreMadeEnds}
-use Rattle.face_sweep.proofs.StopLemmas.{are_ends}
-use Rattle.face_sweep.proofs.stops.Stops.of_edges.Goals as goal
-
-pub stops_of-requires : goal.stops_of-requires
-stops_of-requires c =
-    let made = subst (λ es. AreMadeEnds es c.in_ok-ends.ends) c.edges.ensures.value c.in_ok-ends.ensures.ends in
-    are_ends c.args.edges.now.0 c.in_ok-ends.ends c.sorted.result made c.sorted.ensures
