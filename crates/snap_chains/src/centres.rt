@@ -1,7 +1,9 @@
 //! Hot centres, by number and by search.
 ghost use Rattle.std.specs.Prelude.{◌≡◌, ◌<◌, ℕ, Contains, IfOk, OnOk, length};
+ghost use Rattle.lay_point.specs.Points.{IsBefore};
+ghost use Rattle.lay_point.specs.Rising.{IsRising};
 ghost use Rattle.snap_edge_laws.specs.Chains.{IsChain};
-ghost use Rattle.snap_slabs.specs.Runs.{centres_at};
+ghost use Rattle.snap_slabs.specs.Runs.{AreRanked, centres_at};
 
 use crate::chains::put_chain;
 use lay_point::{NoMemory, Point};
@@ -47,6 +49,18 @@ impl<'h> Centres<'h> {
         let numbers = Numbers::new(rt, alloc, found)?;
         let finder = finder_of(alloc, segments, found)?;
         Ok(Centres { numbers, finder })
+    }
+
+    /// Returns the centres by rows upward, in a row from right to left, and the index there of each, by its number.
+    ///
+    /// # Errors
+    ///
+    /// `AllocError`, if an allocation fails.
+    pub fn into_rows(self, alloc: Global) -> Result<(Vec<Point>, Vec<u32>), AllocError>
+        ensures rising { IfOk result (λ r. IsRising IsBefore self.entry) }
+        ensures ranked { IfOk result (λ r. AreRanked self.entry r.0.items r.1.items) }
+    {
+        self.numbers.into_rows(alloc)
     }
 
     /// Puts the numbers of the chain of a segment, in the order in which it goes, in place of those of the chain before.

@@ -42,8 +42,8 @@ pub fn round(
     let found = hot(rt, alloc, &segments)?;
     let centres = Centres::of(rt, alloc, &segments, &found)?;
     let passes = all_passes(rt, alloc, rings, &segments, &centres)?;
-    let (points, ranks) = centres.numbers.by_rows(alloc)?;
-    let (edges, owners, spans) = read(rt, alloc, passes, centres.numbers.centres(), ranks)?;
+    let (points, ranks) = centres.into_rows(alloc)?;
+    let (edges, owners, spans) = read(rt, alloc, passes, found.centres(), &ranks)?;
     let rounded = Rounded { edges, owners };
     let order = RowOrder { points, spans };
     Ok(CleanEdges { rounded, order })

@@ -110,11 +110,12 @@ impl<'h> Numbers<'h> {
     /// # Cost
     ///
     /// A pass over the centres.
-    pub fn by_rows(&self, alloc: Global) -> Result<(Vec<Point>, &[u32]), AllocError>
-        ensures { IfOk result (λ r. AreRanked self.now r.0.items r.1.now) }
+    pub fn into_rows(self, alloc: Global) -> Result<(Vec<Point>, Vec<u32>), AllocError>
+        ensures rising { IfOk result (λ r. IsRising IsBefore self.entry) }
+        ensures ranked { IfOk result (λ r. AreRanked self.entry r.0.items r.1.items) }
     {
         let points = centres_of(alloc, self.hot.centres(), self.rows.as_slice())?;
-        Ok((points, self.places.as_slice()))
+        Ok((points, self.places))
     }
 
     /// Returns the numbers of the chain of a level side, forth or back.
