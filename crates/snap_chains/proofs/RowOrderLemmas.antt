@@ -1,7 +1,7 @@
 -- Keys in the order of rows, the points of sorted keys, and where the keys of edges' ends are among these.
-use Rattle.std.proofs.Common.{◌≡◌, inl, inr, ⊎_elim, ℕ, suc, ◌+◌, ◌-◌, ◌/◌, ◌%◌, ◌<◌, ◌≤◌, ◌↔◌, true, false, ltb, ltb-true, ltb-false}
+use Rattle.std.proofs.Common.{◌≡◌, inl, inr, ⊎_elim, ℕ, ◌+◌, ◌-◌, ◌/◌, ◌%◌, ◌<◌, ◌≤◌, ◌↔◌, true, false, ltb, ltb-true, ltb-false}
 use Rattle.std.proofs.Common.{List, [], ◌∷◌, ◌++◌, Some, Contains, length, map, get_or, ◌<ℤ◌, ap, subst, sym, ◌∙◌, arith}
-use Rattle.std.specs.Prelude.{All, slice_get, slice_index}
+use Rattle.std.specs.Prelude.{All, slice_get}
 use Rattle.std.specs.List.Sorted.{IsNonDecreasing, IsPartitionPoint, IsStrictlyIncreasing}
 use Rattle.std.proofs.lemmas.Bool.{cases_lt}
 use Rattle.std.proofs.lemmas.List.{get_or_append_left, get_or_default, get_or_push}
@@ -14,6 +14,7 @@ use Rattle.lay_point.proofs.Signs.{linear}
 use Rattle.snap_pixels.specs.Coordinates.{coordinate_from}
 use Rattle.snap_pixels.proofs.GatheredLemmas.{parts_of_less}
 use Rattle.snap_slabs.specs.Runs.{IsRowBefore}
+use Rattle.snap_slabs.proofs.KeyOrder.{increasing_tail}
 use Rattle.snap_chains.specs.RowOrder.{HasKeys, IsSpanOf, end_key, keyed_point}
 use Rattle.snap_chains.specs.declared.row_order.Span.{Span}
 
@@ -30,12 +31,6 @@ keys_before a b less = ⊎_elim
     inr (ap coordinate_from h.0, shifted_less (4294967295 - b % 4294967296) (4294967295 - a % 4294967296) (omega (arith, lt))))
     (λ (lt : a / 4294967296 < b / 4294967296). inl (shifted_less (a / 4294967296) (b / 4294967296) lt))
     (parts_of_less a b less)
-
--- the numbers after the first rise too
-increasing_tail : (k : ℕ) (ks : List ℕ) → IsStrictlyIncreasing (k ∷ ks) → IsStrictlyIncreasing ks
-increasing_tail k ks h i lt =
-    let e : suc i + 1 ≡ suc (i + 1) = omega arith in
-    subst (λ n. slice_index ks i < slice_index (k ∷ ks) n) e (h (suc i) (omega arith))
 
 -- the points of keys that rise are by rows
 pub points_rise : (ks : List ℕ) → IsStrictlyIncreasing ks → IsRising IsRowBefore (map keyed_point ks)

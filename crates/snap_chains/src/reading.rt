@@ -115,8 +115,7 @@ fn edge_at(pass: Pass, centres: &[Point]) -> Edge
 
 /// Returns where the ends of the pass's edge are, by the ranks of their numbers.
 fn span_at(pass: Pass, ranks: &[u32]) -> Span
-    requires low { pass.low < length ranks.now }
-    requires high { pass.high < length ranks.now }
+    requires { (pass.low < length ranks.now) × (pass.high < length ranks.now) }
     ensures { result ≡ span_of ranks.now (numbered_edge pass) }
 {
     Span {

@@ -46,7 +46,7 @@ rising-map Before After f (x ∷ y ∷ ys) g h = (
   rising-map Before After f (y ∷ ys) (λ a b m n. g a b (inr m) (inr n)) h.1,
 )
 
-increasing_tail : (k : ℕ) (ks : List ℕ) → IsStrictlyIncreasing (k ∷ ks) → IsStrictlyIncreasing ks
+pub increasing_tail : (k : ℕ) (ks : List ℕ) → IsStrictlyIncreasing (k ∷ ks) → IsStrictlyIncreasing ks
 increasing_tail k ks h i lt =
     let e : suc i + 1 ≡ suc (i + 1) = omega arith in
     subst (λ n. slice_index ks i < slice_index (k ∷ ks) n) e (h (suc i) (omega arith))

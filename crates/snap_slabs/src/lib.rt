@@ -6,7 +6,8 @@
 //! - [`Numbers`] finds what a segment between two hot centres meets along an axis, without asking any. The number
 //!   of a centre is its index in the order of points, and a second list has all numbers by rows. The chain
 //!   of an upright segment is all numbers from one end's to the other's, and that of a level one is a part of
-//!   the second list (`specs/Runs.antt`).
+//!   the second list (`specs/Runs.antt`). Once chains are found, [`Numbers::into_rows`] gives the centres by rows, and
+//!   where each is among them.
 //! - [`Finder`] finds what any segment meets. The centres are cut into slabs, runs of neighbours that are in
 //!   order of y (`specs/Slabs.antt`): in each slab the segment is clipped to the slab's columns, and only the rows
 //!   that it reaches there are asked (`specs/Clips.antt`). What it answers is what asking each centre would.

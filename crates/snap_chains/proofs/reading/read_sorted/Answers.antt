@@ -24,23 +24,14 @@ edge_at-requires-clause-inside c =
     first_inside c.args.centres.now c.args.passes.now c.requires.inside rest c.loop-first.edges.items c.loop-first.owners.items
     c.loop-first.parts.items c.loop-first.invariant.read first c.in-Some.field-0-1.now whole
 
-pub span_at-requires-clause-low : goal.span_at-requires-clause-low
-span_at-requires-clause-low c =
+pub span_at-requires : goal.span_at-requires
+span_at-requires c =
     let rest = c.loop-first.rest.now in
     let first = c.in-Some.first.now in
     let whole : rest ≡ first ∷ c.in-Some.field-0-1.now = search rules in
     let both = first_inside c.args.centres.now c.args.passes.now c.requires.inside rest c.loop-first.edges.items c.loop-first.owners.items
     c.loop-first.parts.items c.loop-first.invariant.read first c.in-Some.field-0-1.now whole in
-    omega (arith, both, c.requires.ranked)
-
-pub span_at-requires-clause-high : goal.span_at-requires-clause-high
-span_at-requires-clause-high c =
-    let rest = c.loop-first.rest.now in
-    let first = c.in-Some.first.now in
-    let whole : rest ≡ first ∷ c.in-Some.field-0-1.now = search rules in
-    let both = first_inside c.args.centres.now c.args.passes.now c.requires.inside rest c.loop-first.edges.items c.loop-first.owners.items
-    c.loop-first.parts.items c.loop-first.invariant.read first c.in-Some.field-0-1.now whole in
-    omega (arith, both, c.requires.ranked)
+    (omega (arith, both, c.requires.ranked), omega (arith, both, c.requires.ranked))
 
 pub loop-first-preserved : goal.loop-first-preserved
 loop-first-preserved c =
