@@ -25,7 +25,7 @@ use std::alloc::{AllocError, Global};
 ///
 /// # Errors
 ///
-/// `NoMemory`, if an allocation fails.
+/// `NoMemory`, if an allocation fails, and where there are more than 2^31 edges.
 ///
 /// # Cost
 ///

@@ -28,7 +28,7 @@ impl Shared {
     ///
     /// # Errors
     ///
-    /// `NoMemory`, if an allocation fails.
+    /// `NoMemory`, if an allocation fails, and where there are more than 2^31 edges or more than 2^32 points.
     ///
     /// # Cost
     ///
@@ -47,7 +47,7 @@ impl Shared {
     ///
     /// # Errors
     ///
-    /// `NoMemory`, if an allocation fails.
+    /// `NoMemory`, if an allocation fails, and where there are more than 2^31 edges or more than 2^32 points.
     ///
     /// # Cost
     ///

@@ -17,7 +17,8 @@ use std::alloc::Global;
 ///
 /// # Errors
 ///
-/// `NotClean` with the first pair of edges that have more in common than an end, by the first edge, then by the second.
+/// `NotClean` with the first pair of edges that have more in common than an end, by the first edge, then by the second;
+/// `NoMemory`, if none has and an allocation fails, or where there are 2^32 ends or more.
 pub fn check_clean(alloc: Global, rounded: Rounded) -> Result<CleanEdges, CleanFault>
     ensures value { IfOk result (λ c. c ≡ rounded) }
     ensures clean { OnOk result (AreClean rounded.0) }
