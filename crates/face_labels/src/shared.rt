@@ -32,7 +32,7 @@ impl Shared {
     ///
     /// # Cost
     ///
-    /// Five passes over the edges, three of them over their owners, a sort of where the edges begin, and one of the owners
+    /// Four passes over the edges, two of them over their owners, a sort of where the edges begin, and one of the owners
     /// of those edges that aren't on the border of their shape's box.
     pub fn of_edges(alloc: Global, edges: &CleanEdges) -> Result<Shared, NoMemory>
         ensures { IfOk result (IsShared edges.now) }

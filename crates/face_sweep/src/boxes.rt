@@ -22,8 +22,8 @@ impl Boxes {
     pub fn of_edges(alloc: Global, edges: &CleanEdges) -> Result<Boxes, AllocError>
         ensures { IfOk result (AreBoxes edges.now) }
     {
-        let shapes = shape_count(edges);
         let count = edges.edges().len();
+        let shapes = edges.shapes().min(count);
         let mut boxes = Boxes {
             first: vec![in alloc; no_box(); shapes]?,
             second: vec![in alloc; no_box(); shapes]?,
@@ -93,24 +93,4 @@ fn widen(extents: &mut Vec<Rect>, shape: u32, edge: Edge)
     if index < extents.len() {
         extents[index] = extents[index].grown(edge.low()).grown(edge.high());
     }
-}
-
-/// Returns one more than the greatest number of a shape of these edges, or how many edges there are, if that
-/// is less.
-fn shape_count(edges: &CleanEdges) -> usize {
-    let most = edges.edges().len();
-    let mut count = 0;
-    for number in 0..most {
-        count = count.max(beyond_all(edges.owners(number)));
-    }
-    count.min(most)
-}
-
-/// Returns the least number that is greater than those of all these shapes.
-fn beyond_all(owners: &[Owner]) -> usize {
-    let mut count = 0;
-    for owner in owners {
-        count = count.max(owner.shape as usize + 1);
-    }
-    count
 }

@@ -28,7 +28,7 @@ impl Reach {
     ///
     /// # Cost
     ///
-    /// Three passes over the edges and their owners. Where some edges aren't on the border of their shape's box, one more,
+    /// Two passes over the edges and their owners. Where some edges aren't on the border of their shape's box, one more,
     /// and a sort of the owners of these.
     pub fn of_edges(alloc: Global, edges: &CleanEdges) -> Result<Reach, AllocError>
         ensures { IfOk result (IsReach edges.now) }

@@ -30,7 +30,12 @@ pub fn check_clean(alloc: Global, rounded: Rounded) -> Result<CleanEdges, CleanF
     let Ok(order) = RowOrder::of_edges(alloc, rounded.edges()) else {
         return Err(CleanFault::NoMemory);
     };
-    Ok(CleanEdges { rounded, order })
+    // What is checked comes without owners.
+    Ok(CleanEdges {
+        rounded,
+        order,
+        shapes: 0,
+    })
 }
 
 /// Returns the numbers of the first two edges that have more in common than an end.

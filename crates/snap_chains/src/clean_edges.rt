@@ -36,6 +36,8 @@ pub struct CleanEdges {
     pub(crate) rounded: Rounded,
     /// Their ends in the order of rows.
     pub(crate) order: RowOrder,
+    /// A number above those of the shapes that own them, as a hint.
+    pub(crate) shapes: usize,
 }
 
 impl Model for CleanEdges {
@@ -66,6 +68,12 @@ impl CleanEdges {
         ensures { AreInRowOrder self.now.0 result.now }
     {
         &self.order
+    }
+
+    /// Returns a number above those of all shapes that own edges, for lists with room for each shape. It is a hint: no
+    /// clause rests on it.
+    pub fn shapes(&self) -> usize {
+        self.shapes
     }
 
     /// Returns the owners of the edge of this number, in order: by input, then by number.

@@ -46,5 +46,18 @@ pub fn round(
     let (edges, owners, spans) = read(rt, alloc, passes, found.centres(), &ranks)?;
     let rounded = Rounded { edges, owners };
     let order = RowOrder { points, spans };
-    Ok(CleanEdges { rounded, order })
+    Ok(CleanEdges {
+        rounded,
+        order,
+        shapes: shapes_of(rings),
+    })
+}
+
+/// Returns the least number that is greater than those of all shapes of the rings.
+fn shapes_of(rings: &[OwnedRing]) -> usize {
+    let mut count = 0;
+    for ring in rings {
+        count = count.max(ring.owner.shape as usize + 1);
+    }
+    count
 }
