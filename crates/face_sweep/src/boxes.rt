@@ -9,8 +9,8 @@ use lay_point::{Edge, Point, Rect};
 use snap_chains::{CleanEdges, Input, Owner};
 use std::alloc::{AllocError, Global};
 
-/// For each shape of each input, by its number, the box round its edges. Shapes of greater numbers than there
-/// are edges have none.
+/// For each shape of each input, by its number, the box round its edges. Shapes of numbers from `CleanEdges::shapes`
+/// on, or of greater ones than there are edges, have none.
 #[derive(Debug, Drop)]
 pub(crate) struct Boxes {
     pub first: Vec<Rect>,
