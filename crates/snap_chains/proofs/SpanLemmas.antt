@@ -1,5 +1,6 @@
 -- Where the ends of edges are in the order of rows, by the ranks of their numbers.
-use Rattle.std.proofs.Common.{◌≡◌, ◌∙◌, ℕ, zero, suc, ◌<◌, List, ◌∷◌, [], ◌++◌, Contains, Some, get_or, inl, length, refl, sym, subst, ap, arith}
+use Rattle.std.proofs.Common.{◌≡◌, ◌∙◌, ℕ, zero, suc, ◌<◌, List, ◌∷◌, [], ◌++◌, Contains, Some, get_or, inl, length, refl, sym, subst}
+use Rattle.std.proofs.Common.{ap, arith}
 use Rattle.std.specs.Prelude.{slice_get}
 use Rattle.std.specs.List.{AllZip}
 use Rattle.std.proofs.lemmas.Slice.Zip.{AllZip-long}
@@ -17,16 +18,17 @@ use Rattle.snap_chains.specs.RowOrder.{AreInRowOrder, IsSpanBy, IsSpanOf, span_o
 use Rattle.snap_chains.proofs.ReadLemmas.{IsReading, still_left}
 
 -- the numbers of the first pass that is left are those of centres
-pub first_inside : (hot : List Point) (passes : List Pass) → ((p : Pass) → Contains passes p → HasCentres hot p) → (rest : List Pass)
-    (edges : List (Point × Point)) (owners : List Owner) (parts : List Part) → IsReading hot passes rest edges owners parts
-    → (first : Pass) (later : List Pass) → rest ≡ first ∷ later → HasCentres hot first
+pub first_inside : (hot : List Point) (passes : List Pass) → ((p : Pass) → Contains passes p → HasCentres hot p)
+    → (rest : List Pass) (edges : List (Point × Point)) (owners : List Owner) (parts : List Part)
+    → IsReading hot passes rest edges owners parts → (first : Pass) (later : List Pass) → rest ≡ first ∷ later → HasCentres hot first
 first_inside hot passes inside rest edges owners parts h first later whole =
     inside first (still_left hot passes rest edges owners parts h first (subst (λ l. Has l first) (sym whole) (inl refl)))
 
 -- one more edge, and where its ends are
-pub spans_push : (hot : List Point) (ranks : List ℕ) (edges : List (Point × Point)) (spans : List Span) (first : Pass) → HasCentres hot first
-    → AllZip (IsSpanBy hot ranks) edges spans
-    → AllZip (IsSpanBy hot ranks) (edges ++ edge_by_numbers hot (numbered_edge first) ∷ []) (spans ++ span_of ranks (numbered_edge first) ∷ [])
+pub spans_push : (hot : List Point) (ranks : List ℕ) (edges : List (Point × Point)) (spans : List Span) (first : Pass)
+    → HasCentres hot first → AllZip (IsSpanBy hot ranks) edges spans
+    → AllZip (IsSpanBy hot ranks) (edges ++ edge_by_numbers hot (numbered_edge first) ∷ [])
+    (spans ++ span_of ranks (numbered_edge first) ∷ [])
 spans_push hot ranks edges spans first inside h =
     zip_push (IsSpanBy hot ranks) edges spans (edge_by_numbers hot (numbered_edge first)) (span_of ranks (numbered_edge first)) h (record {
       ends = numbered_edge first;
@@ -40,8 +42,10 @@ spans_push hot ranks edges spans first inside h =
 span_is : (hot points : List Point) (ranks : List ℕ) → AreRanked hot points ranks → (e : Point × Point) (s : Span)
     → IsSpanBy hot ranks e s → IsSpanOf points e s
 span_is hot points ranks ranked e s h = record {
-  low = ap (λ (z : Span). slice_get points z.low) h.span ∙ ranked.ranked h.ends.0 h.first ∙ ap (λ (z : Point × Point). Some z.0) (sym h.edge);
-  high = ap (λ (z : Span). slice_get points z.high) h.span ∙ ranked.ranked h.ends.1 h.second ∙ ap (λ (z : Point × Point). Some z.1) (sym h.edge);
+  low = ap (λ (z : Span). slice_get points z.low) h.span ∙ ranked.ranked h.ends.0 h.first
+      ∙ ap (λ (z : Point × Point). Some z.0) (sym h.edge);
+  high = ap (λ (z : Span). slice_get points z.high) h.span ∙ ranked.ranked h.ends.1 h.second
+      ∙ ap (λ (z : Point × Point). Some z.1) (sym h.edge);
 }
 
 -- related items are so by their number

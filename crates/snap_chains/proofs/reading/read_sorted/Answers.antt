@@ -12,8 +12,10 @@ use Rattle.snap_chains.proofs.reading.read_sorted.Goals as goal
 pub loop-first-init : goal.loop-first-init
 loop-first-init c = record {
   read = coe 1 0 (i. IsReading c.args.centres.now c.args.passes.now c.args.passes.now (c.in_ok-edges.ensures.items i)
-      (c.in_ok-owners.ensures.items i) (c.in_ok-parts.ensures.items i)) (reading_start c.args.centres.now c.args.passes.now c.requires.sorted);
-  spans = coe 1 0 (i. AllZip (IsSpanBy c.args.centres.now c.args.ranks.now) (c.in_ok-edges.ensures.items i) (c.in_ok-spans.ensures.items i)) tt;
+      (c.in_ok-owners.ensures.items i) (c.in_ok-parts.ensures.items i))
+      (reading_start c.args.centres.now c.args.passes.now c.requires.sorted);
+  spans = coe 1 0 (i. AllZip (IsSpanBy c.args.centres.now c.args.ranks.now)
+      (c.in_ok-edges.ensures.items i) (c.in_ok-spans.ensures.items i)) tt;
 }
 
 pub edge_at-requires-clause-inside : goal.edge_at-requires-clause-inside

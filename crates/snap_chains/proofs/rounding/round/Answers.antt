@@ -34,7 +34,8 @@ invariant_of-result g c =
     let hot = c.centres-2.result.now in
     let points = c.in_ok-points.points.items in
     let ranks = c.in_ok-points.ranks.items in
-    let ranked = subst (λ l. AreRanked l points ranks) (c.in_ok-centres.ensures ∙ sym c.centres-2.ensures.value) c.in_ok-points.ensures.ranked in (
+    let ranked = subst (λ l. AreRanked l points ranks) (c.in_ok-centres.ensures ∙ sym c.centres-2.ensures.value)
+    c.in_ok-points.ensures.ranked in (
       round_is_clean c.args.rings.now _ _ made,
       spans_ordered hot points ranks c.in_ok-edges.edges.items c.in_ok-edges.spans.items ranked
           (subst (λ rs. AllZip (IsSpanBy hot rs) c.in_ok-edges.edges.items c.in_ok-edges.spans.items) c.deref-4.ensures.value
