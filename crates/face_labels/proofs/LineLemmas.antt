@@ -14,7 +14,6 @@ use Rattle.std.proofs.lemmas.List.{
   length-take-le,
   take_at,
 }
-use Rattle.std.proofs.lemmas.List.Elements.{Contains-append_left, Contains-append_right}
 use Rattle.lay_point.proofs.Signs.{linear}
 use Rattle.lay_point.specs.declared.point.Point.{Point}
 use Rattle.lay_point.proofs.Members.{Has, contains, has, has-append}
@@ -24,18 +23,18 @@ use Rattle.snap_chains.specs.Rounded.{Owned}
 use Rattle.face_rows.specs.Rows.{CrossesRow}
 use Rattle.face_rows.specs.Sound.{AreSound}
 use Rattle.face_rows.specs.declared.op.Op.{Op}
-use Rattle.face_sweep.specs.declared.known.Known.{Known}
+use Rattle.face_sweep.specs.declared.counts.LeftCounts.{LeftCounts}
 use Rattle.face_sweep.specs.declared.stops.Stop.{Stop}
 use Rattle.face_sweep.specs.declared.stops.Stops.{Stops}
 use Rattle.face_sweep.specs.OwnRows.{IsCutAt, own_edge, own_of}
 use Rattle.face_sweep.specs.Points.{AreBegunAt, HasHigh, HasLow, IsEndedGroup, IsLevelFrom, IsPassed, IsStatus, distance_from}
-use Rattle.face_sweep.specs.Sides.{AreBehind, IsKnown, holds_beside, is_odd_in}
+use Rattle.face_sweep.specs.Sides.{AreBehind, AreLefts, holds_beside, is_odd_in}
 use Rattle.face_sweep.specs.Stops.{AreStops}
-use Rattle.face_sweep.proofs.PassLemmas.{AreRest, has_back, has_front, none_of_group}
+use Rattle.face_sweep.proofs.PassLemmas.{has_back, has_front}
 use Rattle.face_sweep.proofs.OwnLemmas.{own_append}
 use Rattle.face_sweep.proofs.PointLemmas.{begins_none, ends_none}
 use Rattle.face_sweep.proofs.ReplaceLemmas.{status_given}
-use Rattle.face_sweep.proofs.StateLemmas.{split_at}
+use Rattle.face_sweep.proofs.StateLemmas.{lefts_drop, lefts_joined, lefts_take, split_at}
 use Rattle.face_sweep.proofs.SweepLemmas.{is_end}
 use Rattle.face_labels.specs.RowSides.{AreSplit, HasLabel, IsSweepStop}
 use Rattle.face_labels.proofs.BegunLemmas.{rises_or_level}
@@ -46,19 +45,10 @@ all_in P xs f k d less = f (get_or xs k d) (contains xs (get_or xs k d) (has_get
 pub in_all : (P : ℕ → Type 0) (xs : List ℕ) (n : ℕ) → All P xs → Contains xs n → P n
 in_all P xs n all m = subst P m.2 (all m.0 n m.1)
 
-among_front : (xs : List ℕ) (from n : ℕ) → from ≤ length xs → Contains (take from xs) n → Contains xs n
-among_front xs from n bound found =
-    let f = has_front xs from n bound found in
-    let less = f.1 in
-    (f.0, omega (arith, less, bound), get_or_default xs f.0 n 0 (omega (arith, less, bound)) ∙ f.2)
-
 among_back : (xs : List ℕ) (to n : ℕ) → Contains (drop to xs) n → Contains xs n
 among_back xs to n found = let b = has_back xs to n found in (b.0, b.2, get_or_default xs b.0 n 0 b.2 ∙ b.3)
 
--- ---- the edges right of the point
-pub rest_given : (r : Owned) (p : Point) (numbers : List ℕ) → AreRest r p numbers → All (λ n. n < length r.0) numbers
-rest_given r p numbers h = all_in (λ n. n < length r.0) numbers (λ n found. (h.row.members n found).0)
-
+-- ---- the edges of a row
 -- those behind an edge of the row tell what holds beside it
 module _ (r : Owned) (numbers : List ℕ) (from : ℕ) (h : AreBehind r (drop from numbers)) where
   pub beside_at : (k : ℕ) → from ≤ k → k < length numbers → (o : Owner)
@@ -71,14 +61,6 @@ module _ (r : Owned) (numbers : List ℕ) (from : ℕ) (h : AreBehind r (drop fr
       ∙ ap (λ l. is_odd_in r l o) (sym (drop-drop (i + 1) from numbers))
       ∙ h i (omega (arith, length-drop from numbers)) o
       ∙ ap (λ n. holds_beside r n o) (get_or-drop from numbers i 0 ∙ ap (λ j. get_or numbers j 0) there)
-
-  pub behind_at : (k : ℕ) → from ≤ k → AreBehind r (drop k numbers)
-  behind_at k le i less o =
-      let next : k + (i + 1) ≡ (k + i) + 1 = omega arith in
-      ap (λ l. is_odd_in r l o) (drop-drop (i + 1) k numbers)
-      ∙ ap (λ j. is_odd_in r (drop j numbers) o) next
-      ∙ beside_at (k + i) (omega arith) (omega (arith, length-drop k numbers, less)) o
-      ∙ ap (λ n. holds_beside r n o) (sym (get_or-drop k numbers i 0))
 
 -- ---- the list once the group is replaced
 module _ (old new begun : List ℕ) (from to : ℕ) (order : from ≤ to) (bound : to ≤ length old)
@@ -98,6 +80,11 @@ module _ (old new begun : List ℕ) (from to : ℕ) (order : from ≤ to) (bound
   pub new_rest : drop (from + length begun) new ≡ drop to old
   new_rest = sym (drop-drop (length begun) from new) ∙ ap (drop (length begun)) new_back
       ∙ drop_at begun (drop to old) (length begun) refl
+
+  pub new_range : slice_range new from (from + length begun) ≡ begun
+  new_range =
+      let count : (from + length begun) - from ≡ length begun = omega arith in
+      ap (λ k. take k (drop from new)) count ∙ ap (take (length begun)) new_back ∙ take_at begun (drop to old) (length begun) refl
 
   pub new_at : (k : ℕ) → k < length begun → get_or new (from + k) 0 ≡ get_or begun k 0
   new_at k less = sym (get_or-drop from new k 0) ∙ ap (λ l. get_or l k 0) new_back ∙ get_or_append_left begun (drop to old) 0 k less
@@ -179,32 +166,16 @@ pub own_joined : (r : Owned) (o : Owner) (numbers : List ℕ) (from : ℕ)
 own_joined r o numbers from =
     sym (own_append r o (take from numbers) (drop from numbers)) ∙ ap (own_of r o) (take-append-drop from numbers)
 
--- ---- the sides that are known
--- those of the group are forgotten
-module _ (r : Owned) (p : Point) (numbers : List ℕ) (from to : ℕ) (sound : AreSound r) (h : IsEndedGroup r p numbers from to)
-    (old known : Known)
-    (all : (n : ℕ) → Contains numbers n → IsKnown old n)
-    (kept : (n : ℕ) → (Contains (slice_range numbers from to) n → ⊥) → IsKnown old n → IsKnown known n) where
-  pub known_rest : (n : ℕ) → Contains (drop to numbers) n → IsKnown known n
-  known_rest n found =
-      kept n (none_of_group r p numbers from to n sound h (Contains-append_right (take from numbers) (drop to numbers) n found))
-      (all n (among_back numbers to n found))
-
-  pub known_front : (n : ℕ) → Contains (take from numbers) n → IsKnown known n
-  known_front n found =
-      kept n (none_of_group r p numbers from to n sound h (Contains-append_left (take from numbers) (drop to numbers) n found))
-      (all n (among_front numbers from n (omega (arith, h.order, h.bound)) found))
-
--- and those of the edges that begin are found
-pub known_all : (numbers new begun : List ℕ) (from to : ℕ) (known last : Known) → new ≡ take from numbers ++ begun ++ drop to numbers
-    → ((n : ℕ) → Contains (take from numbers) n → IsKnown known n) → ((n : ℕ) → IsKnown known n → IsKnown last n)
-    → All (IsKnown last) (begun ++ drop to numbers) → (n : ℕ) → Contains new n → IsKnown last n
-known_all numbers new begun from to known last is left still found n there = ⊎_elim
-    (λ (front : Has (take from numbers) n). still n (left n (contains (take from numbers) n front)))
-    (λ (back : Has (begun ++ drop to numbers) n).
-    in_all (IsKnown last) (begun ++ drop to numbers) n found (contains (begun ++ drop to numbers) n back))
-    (has-append (take from numbers) (begun ++ drop to numbers) n (has (take from numbers ++ (begun ++ drop to numbers)) n
-    (subst (λ ns. Contains ns n) (is ∙ append_assoc (take from numbers) begun (drop to numbers)) there)))
+-- ---- what is kept beside the edges
+-- once the group is replaced
+pub lefts_replaced : (r : Owned) (old new begun : List ℕ) (was now found : List LeftCounts) (from to : ℕ)
+    → new ≡ take from old ++ begun ++ drop to old → now ≡ take from was ++ found ++ drop to was
+    → AreLefts r old was → AreLefts r begun found → AreLefts r new now
+lefts_replaced r old new begun was now found from to is kept_is kept begun_is =
+    coe 1 0 (i. AreLefts r (is i) (kept_is i))
+    (lefts_joined r (take from old ++ begun) (drop to old) (take from was ++ found) (drop to was)
+    (lefts_joined r (take from old) begun (take from was) found (lefts_take r from old was kept) begun_is)
+    (lefts_drop r to old was kept))
 
 -- ---- the labels of the edges that begin at a point
 pub begun_labels : (r : Owned) (op : Op) (p : Point) (numbers : List ℕ) (index : ℕ) (first last : List Bool) → AreSplit r p numbers index

@@ -1,4 +1,4 @@
--- The edges of the sweep at a stop, with the sides of each, and the labels that are written.
+-- The edges of the sweep at a stop, with what is kept beside each, and the labels that are written.
 use Rattle.std.specs.Prelude.{◌≡◌, ℕ, ◌≤◌, Bool, false, Contains, List, ◌++◌, drop, length, slice_index_or, slice_range, take}
 use Rattle.lay_point.specs.declared.point.Point.{Point}
 use Rattle.snap_chains.specs.Rounded.{Owned}
@@ -13,7 +13,7 @@ use Rattle.face_sweep.specs.declared.reach.Reach.{Reach}
 use Rattle.face_sweep.specs.OwnRows.{AreOwn, HaveLists, own_of}
 use Rattle.face_sweep.specs.Points.{AreBegunAt, IsEndPoint, IsEndedGroup, IsLevelFrom, IsPassed, IsStatus}
 use Rattle.face_sweep.specs.Reaches.{IsReach, keys_of}
-use Rattle.face_sweep.specs.Sides.{AreKnown, IsKnown}
+use Rattle.face_sweep.specs.Sides.{AreLefts}
 use Rattle.face_sweep.specs.Stops.{AreStops, BeginAt}
 use Rattle.face_labels.specs.declared.group.Group.{Group}
 use Rattle.face_labels.specs.declared.sweep_row.SweepRow.{SweepRow}
@@ -39,21 +39,18 @@ pub record AreSplit (r : Owned) (p : Point) (numbers : List ℕ) (index : ℕ) :
   pub levels : (n : ℕ) → Contains (drop index numbers) n → IsLevelFrom r p n
   pub all_levels : (n : ℕ) → IsLevelFrom r p n → Contains (drop index numbers) n
 
--- the edges at the point, with the sides of all of them, and those that single shapes own
+-- the edges at the point, with what is kept beside them, and those that single shapes own
 pub record IsLineAt (r : Owned) (reach : Reach) (p : Point) (line : SweepRow) : Type 0 where
   pub status : IsStatus r p line.numbers.items
-  pub known : AreKnown r line.known
-  pub all : (n : ℕ) → Contains line.numbers.items n → IsKnown line.known n
+  pub lefts : AreLefts r line.numbers.items line.lefts.items
   pub room : HaveLists r (keys_of reach) line.own
   pub own : AreOwn (keys_of reach) (λ o. own_of r o line.numbers.items) line.own
 
--- the same, but of the edges of the group, which end at its point, only the numbers
+-- the same, but the edges of the group, which end at its point, are in no list
 pub record IsLineWithout (r : Owned) (reach : Reach) (gone : Group) (line : SweepRow) : Type 0 where
   pub status : IsStatus r gone.point line.numbers.items
   pub group : IsEndedGroup r gone.point line.numbers.items gone.from gone.to
-  pub known : AreKnown r line.known
-  pub all_left : (n : ℕ) → Contains (take gone.from line.numbers.items) n → IsKnown line.known n
-  pub all_right : (n : ℕ) → Contains (drop gone.to line.numbers.items) n → IsKnown line.known n
+  pub lefts : AreLefts r line.numbers.items line.lefts.items
   pub room : HaveLists r (keys_of reach) line.own
   pub own : AreOwn (keys_of reach)
       (λ o. own_of r o (drop gone.to line.numbers.items) ++ own_of r o (take gone.from line.numbers.items)) line.own
@@ -61,8 +58,7 @@ pub record IsLineWithout (r : Owned) (reach : Reach) (gone : Group) (line : Swee
 -- the same as at a point once it is passed
 pub record IsLinePast (r : Owned) (reach : Reach) (p : Point) (line : SweepRow) : Type 0 where
   pub passed : IsPassed r p line.numbers.items
-  pub known : AreKnown r line.known
-  pub all : (n : ℕ) → Contains line.numbers.items n → IsKnown line.known n
+  pub lefts : AreLefts r line.numbers.items line.lefts.items
   pub room : HaveLists r (keys_of reach) line.own
   pub own : AreOwn (keys_of reach) (λ o. own_of r o line.numbers.items) line.own
 

@@ -1,4 +1,4 @@
-//! Edges that begin at a stop: their sides, and the labels that are written for them.
+//! Edges that begin at a stop: what holds left of them, and the labels that are written for them.
 ghost use Rattle.std.specs.Prelude.{
   ◌≡◌,
   ◌+◌,
@@ -8,12 +8,14 @@ ghost use Rattle.std.specs.Prelude.{
   ℕ,
   All,
   Contains,
+  IfOk,
   OnOk,
   Some,
   drop,
   int_lt,
   length,
   slice_index,
+  slice_range,
   take,
 };
 ghost use Rattle.snap_chains.specs.declared.owner.Owner.{Owner};
@@ -22,15 +24,16 @@ ghost use Rattle.face_rows.specs.Lines.{edge_at, owned_item_at};
 ghost use Rattle.face_rows.specs.Operations.{answer};
 ghost use Rattle.face_rows.specs.Rows.{upward};
 ghost use Rattle.face_rows.specs.Sound.{AreSound};
+ghost use Rattle.face_sweep.specs.Counts.{AreCounts};
 ghost use Rattle.face_sweep.specs.OwnRows.{AreOwn, AreRight, HasPutEdge, HaveLists, IsCutAt, own_of};
 ghost use Rattle.face_sweep.specs.Reaches.{IsReach, keys_of};
-ghost use Rattle.face_sweep.specs.Sides.{AreBehind, AreKnown, IsKnown, holds_beside, is_odd_in};
+ghost use Rattle.face_sweep.specs.Sides.{AreBehind, AreLeftOf, AreLefts, holds_beside, is_odd_in};
 ghost use Rattle.face_sweep.specs.Stops.{BeginAt};
 ghost use Rattle.face_labels.specs.RowSides.{AreSplit, HasLabel};
 
 use crate::group::Group;
 use face_rows::{Op, upward};
-use face_sweep::{Known, OwnRows, Reach, Sides};
+use face_sweep::{Counts, LeftCounts, OwnRows, Reach, Sides};
 use lay_point::Point;
 use snap_chains::CleanEdges;
 use std::alloc::AllocError;
@@ -64,17 +67,14 @@ pub(crate) fn label_levels(
     behind: &[usize],
     levels: &[usize],
     point: Point,
-    known: &Known,
+    right: Counts,
     own: &OwnRows,
     reach: &Reach,
     op: Op,
     labels: &mut Vec<bool>,
 )
     requires sound { AreSound edges.now }
-    requires behind { AreBehind edges.now behind.now }
-    requires given { All (λ n. n < length edges.now.0) behind.now }
-    requires known { AreKnown edges.now known.now }
-    requires all { All (IsKnown known.now) behind.now }
+    requires right { AreCounts right (is_odd_in edges.now behind.now) }
     requires reach { IsReach edges.now reach.now }
     requires room { HaveLists edges.now (keys_of reach.now) own.now }
     requires own { AreRight edges.now (keys_of reach.now) (Some point) behind.now own.now }
@@ -88,7 +88,7 @@ pub(crate) fn label_levels(
 {
     for index in 0..levels.len() {
         let number = levels[index];
-        let label = level_label(edges, behind, point, known, own, reach, number, op);
+        let label = level_label(edges, behind, point, right, own, reach, number, op);
         labels[number] = label;
     }
 }
@@ -99,17 +99,14 @@ fn level_label(
     edges: &CleanEdges,
     behind: &[usize],
     point: Point,
-    known: &Known,
+    right: Counts,
     own: &OwnRows,
     reach: &Reach,
     number: usize,
     op: Op,
 ) -> bool
     requires sound { AreSound edges.now }
-    requires behind { AreBehind edges.now behind.now }
-    requires given { All (λ n. n < length edges.now.0) behind.now }
-    requires known { AreKnown edges.now known.now }
-    requires all { All (IsKnown known.now) behind.now }
+    requires right { AreCounts right (is_odd_in edges.now behind.now) }
     requires reach { IsReach edges.now reach.now }
     requires room { HaveLists edges.now (keys_of reach.now) own.now }
     requires own { AreRight edges.now (keys_of reach.now) (Some point) behind.now own.now }
@@ -117,26 +114,27 @@ fn level_label(
     requires beside { (o : Owner) → is_odd_in edges.now behind.now o ≡ holds_beside edges.now number o }
     ensures { result ≡ differs (answer op) (owned_items edges.now) (owned_item_at edges.now number) }
 {
-    let sides = Sides::of(edges, behind, known, reach, own, Some(point), number);
+    let sides = Sides::of(edges, behind, right, reach, own, Some(point), number);
     sides.differs(op)
 }
 
-/// Finds the sides of the edges of the group, which begin at its point, from right to left, and writes their
-/// labels. Those of the edges behind them are known. The lists of single shapes have all edges of the line but
-/// these, which are put in.
+/// Finds what a row keeps beside the edges of the group, which begin at its point, in the room for that, and writes
+/// their labels. So many shapes hold right of the group. The lists of single shapes have all edges of the line but these,
+/// which are put in.
 ///
 /// # Errors
 ///
-/// `AllocError`, if an allocation fails.
+/// `AllocError`, if an allocation fails, and where 2^32 shapes of an input hold.
 pub(crate) fn find_begun(
     edges: &CleanEdges,
     numbers: &[usize],
     group: Group,
-    known: &mut Known,
+    right: Counts,
     own: &mut OwnRows,
     reach: &Reach,
     op: Op,
     labels: &mut Vec<bool>,
+    lefts: &mut Vec<LeftCounts>,
 ) -> Result<(), AllocError>
     requires sound { AreSound edges.now }
     requires reach { IsReach edges.now reach.now }
@@ -144,16 +142,13 @@ pub(crate) fn find_begun(
     requires bound { group.to ≤ length numbers.now }
     requires given { All (λ n. n < length edges.now.0) numbers.now }
     requires behind { AreBehind edges.now (drop group.from numbers.now) }
-    requires known { AreKnown edges.now known.old }
-    requires all { All (IsKnown known.old) (drop group.to numbers.now) }
+    requires right { AreCounts right (is_odd_in edges.now (drop group.to numbers.now)) }
     requires room { HaveLists edges.now (keys_of reach.now) own.old }
     requires cut { IsCutAt edges.now group.point (drop group.from numbers.now) (take group.from numbers.now) }
     requires own { AreOwn (keys_of reach.now)
         (λ o. own_of edges.now o (drop group.to numbers.now) ++ own_of edges.now o (take group.from numbers.now)) own.old }
     requires count { length labels.old.items ≡ length edges.now.0 }
-    ensures known { OnOk result (AreKnown edges.now known.new) }
-    ensures kept { OnOk result ((n : ℕ) → IsKnown known.old n → IsKnown known.new n) }
-    ensures all { OnOk result (All (IsKnown known.new) (drop group.from numbers.now)) }
+    ensures lefts { OnOk result (AreLefts edges.now (slice_range numbers.now group.from group.to) lefts.new.items) }
     ensures room { OnOk result (HaveLists edges.now (keys_of reach.now) own.new) }
     ensures own { OnOk result (AreOwn (keys_of reach.now) (λ o. own_of edges.now o numbers.now) own.new) }
     ensures count { length labels.new.items ≡ length edges.now.0 }
@@ -162,26 +157,31 @@ pub(crate) fn find_begun(
     ensures labels { OnOk result ((k : ℕ) → group.from ≤ k → k < group.to
         → HasLabel op edges.now labels.new.items (slice_index numbers.now k)) }
 {
+    lefts.clear();
+    let mut right = right;
     let mut index = group.to;
     while index > group.from {
         index -= 1;
-        find_labelled(
+        right = find_labelled(
             edges,
             numbers,
             index,
             group.point,
-            known,
+            right,
             own,
             reach,
             op,
             labels,
         )?;
+        let left = LeftCounts::of(right)?;
+        lefts.push(left)?;
     }
+    lefts.reverse();
     Ok(())
 }
 
-/// Finds the sides of the edge at this index, which begins at the point, and writes its label. The sides of the
-/// edges behind it are known. It comes to the lists of single shapes.
+/// Returns how many shapes hold left of the edge at this index, which begins at the point and right of which so many
+/// hold, and writes its label. It comes to the lists of single shapes.
 ///
 /// # Errors
 ///
@@ -191,27 +191,23 @@ fn find_labelled(
     numbers: &[usize],
     index: usize,
     point: Point,
-    known: &mut Known,
+    right: Counts,
     own: &mut OwnRows,
     reach: &Reach,
     op: Op,
     labels: &mut Vec<bool>,
-) -> Result<(), AllocError>
+) -> Result<Counts, AllocError>
     requires sound { AreSound edges.now }
     requires reach { IsReach edges.now reach.now }
     requires index { index < length numbers.now }
     requires given { All (λ n. n < length edges.now.0) numbers.now }
-    requires behind { AreBehind edges.now (drop (index + 1) numbers.now) }
     requires beside { (o : Owner) → is_odd_in edges.now (drop (index + 1) numbers.now) o
         ≡ holds_beside edges.now (slice_index numbers.now index) o }
-    requires known { AreKnown edges.now known.old }
-    requires all { All (IsKnown known.old) (drop (index + 1) numbers.now) }
+    requires right { AreCounts right (is_odd_in edges.now (drop (index + 1) numbers.now)) }
     requires room { HaveLists edges.now (keys_of reach.now) own.old }
     requires own { AreRight edges.now (keys_of reach.now) (Some point) (drop (index + 1) numbers.now) own.old }
     requires count { length labels.old.items ≡ length edges.now.0 }
-    ensures known { OnOk result (AreKnown edges.now known.new) }
-    ensures kept { OnOk result ((n : ℕ) → IsKnown known.old n → IsKnown known.new n) }
-    ensures here { OnOk result (IsKnown known.new (slice_index numbers.now index)) }
+    ensures left { IfOk result (AreLeftOf edges.now (slice_index numbers.now index)) }
     ensures room { OnOk result (HaveLists edges.now (keys_of reach.now) own.new) }
     ensures put { OnOk result
         (HasPutEdge edges.now (keys_of reach.now) (Some point) (slice_index numbers.now index) own.old own.new) }
@@ -222,9 +218,8 @@ fn find_labelled(
 {
     let number = numbers[index];
     let behind = &numbers[index + 1..];
-    let sides = Sides::of(edges, behind, known, reach, own, Some(point), number);
+    let sides = Sides::of(edges, behind, right, reach, own, Some(point), number);
     labels[number] = sides.differs(op);
-    known.put(number, sides)?;
     own.put(edges, reach, number, Some(point))?;
-    Ok(())
+    Ok(sides.left())
 }

@@ -1,4 +1,4 @@
-//! The edges of the sweep at a stop, with the shapes on the two sides of each.
+//! The edges of the sweep at a stop, with how many shapes hold left of each.
 ghost use Rattle.std.specs.Prelude.{
   ◌≡◌,
   ◌<◌,
@@ -9,6 +9,7 @@ ghost use Rattle.std.specs.Prelude.{
   All,
   IfOk,
   OnOk,
+  drop,
   length,
   pos,
   slice_index_or,
@@ -17,16 +18,21 @@ ghost use Rattle.face_rows.specs.Rows.{AreRowEdges};
 ghost use Rattle.face_rows.specs.Sound.{AreSound};
 ghost use Rattle.face_sweep.specs.declared.stops.Stop.{Stop};
 ghost use Rattle.face_sweep.specs.Points.{AreBegunAt, HasLow, IsEndPoint, IsEndedGroup, IsStatus};
+ghost use Rattle.face_sweep.specs.Counts.{AreCounts};
 ghost use Rattle.face_sweep.specs.Reaches.{IsReach};
+ghost use Rattle.face_sweep.specs.Sides.{is_odd_in};
 ghost use Rattle.face_sweep.specs.Stops.{AreStops};
 ghost use Rattle.face_labels.specs.RowSides.{HasLabel, IsLineAt, IsLinePast, IsLineWithout, IsShared, IsSweepStop};
 
 use crate::begun::{find_begun, label_levels, rising_count};
-use crate::finds::{find_sides, forget, take_out};
+use crate::finds::{find_lefts, take_out};
 use crate::group::Group;
 use crate::shared::Shared;
 use face_rows::{Op, row_edges};
-use face_sweep::{Known, OwnRows, Reach, Stop, Stops, group_end, place_of_point, replace};
+use face_sweep::{
+    Counts, LeftCounts, OwnRows, Reach, Stop, Stops, counts_before, group_end, place_of_point,
+    replace,
+};
 use lay_point::{NoMemory, Point};
 use snap_chains::CleanEdges;
 use std::alloc::Global;
@@ -36,12 +42,14 @@ use std::alloc::Global;
 #[derive(Debug, Drop)]
 pub(crate) struct SweepRow {
     pub numbers: Vec<usize>,
-    /// The sides of these edges.
-    pub known: Known,
+    /// How many shapes hold left of each of them.
+    pub lefts: Vec<LeftCounts>,
     /// Which of them single shapes own.
     pub own: OwnRows,
     /// Where among them the stop before this one was.
     pub place: usize,
+    /// Room for what is kept beside the edges that begin at a stop.
+    pub begun_lefts: Vec<LeftCounts>,
 }
 
 impl SweepRow {
@@ -65,20 +73,14 @@ impl SweepRow {
             → IsLineAt edges.now shared.now.reach (slice_index_or shared.now.stops.list.items index d).point line) }
     {
         let numbers = edges_below(alloc, edges, &shared.stops, index)?;
-        let mut known = Known::new(alloc, edges.edges().len())?;
         let mut own = OwnRows::new(alloc, &shared.reach)?;
-        find_sides(
-            edges,
-            numbers.as_slice(),
-            &mut known,
-            &mut own,
-            &shared.reach,
-        )?;
+        let lefts = find_lefts(alloc, edges, numbers.as_slice(), &mut own, &shared.reach)?;
         Ok(SweepRow {
             numbers,
-            known,
+            lefts,
             own,
             place: 0,
+            begun_lefts: Vec::new(alloc),
         })
     }
 
@@ -113,18 +115,29 @@ impl SweepRow {
         let group = self.group_at(edges, stop.point);
         let reach = &shared.reach;
         let rest = self.without(edges, reach, group);
+        let behind = &rest.numbers[group.to..];
+        let right = counts_before(edges, behind, &rest.lefts[group.to..]);
         label_levels(
             edges,
-            &rest.numbers[group.to..],
+            behind,
             &begun[rising..],
             group.point,
-            &rest.known,
+            right,
             &rest.own,
             reach,
             op,
             labels,
         );
-        let line = rest.with_begun(alloc, edges, reach, group, &begun[..rising], op, labels)?;
+        let line = rest.with_begun(
+            alloc,
+            edges,
+            reach,
+            group,
+            &begun[..rising],
+            right,
+            op,
+            labels,
+        )?;
         Ok(line)
     }
 
@@ -143,8 +156,8 @@ impl SweepRow {
         Group { point, from, to }
     }
 
-    /// Returns the row with the sides of the group's edges, which end at its point, forgotten, and these out of the
-    /// lists of single shapes. Their numbers stay.
+    /// Returns the row with the group's edges, which end at its point, out of the lists of single shapes. Their numbers
+    /// stay.
     fn without(self, edges: &CleanEdges, reach: &Reach, group: Group) -> SweepRow
         requires sound { AreSound edges.now }
         requires reach { IsReach edges.now reach.now }
@@ -152,20 +165,19 @@ impl SweepRow {
         requires group { IsEndedGroup edges.now group.point self.numbers.items group.from group.to }
         ensures { IsLineWithout edges.now reach.now group result }
     {
-        let mut known = self.known;
         let mut own = self.own;
-        forget(&mut known, &self.numbers[group.from..group.to]);
         take_out(edges, self.numbers.as_slice(), group, &mut own, reach);
         SweepRow {
             numbers: self.numbers,
-            known,
+            lefts: self.lefts,
             own,
             place: group.from,
+            begun_lefts: self.begun_lefts,
         }
     }
 
     /// Returns the row with the edges of the group replaced by those that rise from its point, and writes the
-    /// labels of these.
+    /// labels of these. So many shapes hold right of the group.
     ///
     /// # Errors
     ///
@@ -177,11 +189,13 @@ impl SweepRow {
         reach: &Reach,
         group: Group,
         begun: &[usize],
+        right: Counts,
         op: Op,
         labels: &mut Vec<bool>,
     ) -> Result<SweepRow, NoMemory>
         requires sound { AreSound edges.now }
         requires reach { IsReach edges.now reach.now }
+        requires right { AreCounts right (is_odd_in edges.now (drop group.to self.numbers.items)) }
         requires end { IsEndPoint edges.now group.point }
         requires line { IsLineWithout edges.now reach.now group self }
         requires begun { AreBegunAt edges.now group.point begun.now }
@@ -193,29 +207,26 @@ impl SweepRow {
         ensures labels { OnOk result (All (HasLabel op edges.now labels.new.items) begun.now) }
     {
         let mut numbers = self.numbers;
-        let mut known = self.known;
+        let mut lefts = self.lefts;
         let mut own = self.own;
+        let mut found = self.begun_lefts;
         replace(alloc, &mut numbers, group.from, group.to, begun)?;
         let risers = Group {
             point: group.point,
             from: group.from,
             to: group.from + begun.len(),
         };
+        let row = numbers.as_slice();
         find_begun(
-            edges,
-            numbers.as_slice(),
-            risers,
-            &mut known,
-            &mut own,
-            reach,
-            op,
-            labels,
+            edges, row, risers, right, &mut own, reach, op, labels, &mut found,
         )?;
+        replace(alloc, &mut lefts, group.from, group.to, found.as_slice())?;
         Ok(SweepRow {
             numbers,
-            known,
+            lefts,
             own,
             place: group.from,
+            begun_lefts: found,
         })
     }
 }

@@ -2,7 +2,6 @@ pub mod BehindLemmas
 pub mod BoxLemmas
 pub mod CountLemmas
 pub mod EndLemmas
-pub mod KnownLemmas
 pub mod LabelLemmas
 pub mod LevelLemmas
 pub mod NextLemmas

@@ -18,42 +18,42 @@ use Rattle.face_rows.specs.Sound.{AreSound}
 use Rattle.face_sweep.specs.Points.{HasHigh, IsEndedGroup, IsPlaceAmong, IsStatus, IsEndPoint, distance_from}
 use Rattle.face_sweep.proofs.StatusLemmas.{append_joined, places_tell}
 
-take_length : (xs : List ℕ) (n : ℕ) → n ≤ length xs → length (take n xs) ≡ n
+take_length : {A : Type 0} (xs : List A) (n : ℕ) → n ≤ length xs → length (take n xs) ≡ n
 take_length [] zero le = refl
 take_length [] (suc n) le = absurd (omega arith)
 take_length (x ∷ xs) zero le = refl
 take_length (x ∷ xs) (suc n) le = ap suc (take_length xs n (omega arith))
 
 -- one element overwritten
-pub set_more : (old now others : List ℕ) (from i : ℕ) → from + i < length old → i < length others
+pub set_more : {A : Type 0} (old now others : List A) (d : A) (from i : ℕ) → from + i < length old → i < length others
     → now ≡ (take from old ++ take i others) ++ drop (from + i) old
-    → set now (from + i) (get_or others i 0) ≡ (take from old ++ take (i + 1) others) ++ drop (from + (i + 1)) old
-set_more old now others from i less inside e =
+    → set now (from + i) (get_or others i d) ≡ (take from old ++ take (i + 1) others) ++ drop (from + (i + 1)) old
+set_more old now others d from i less inside e =
     let front = take from old ++ take i others in
-    let x = get_or others i 0 in
+    let x = get_or others i d in
     let next : (from + i) + 1 ≡ from + (i + 1) = omega arith in
     let long : length front ≡ from + i =
     length-append (take from old) (take i others) ∙ (λ j. take_length old from (omega arith) j + take_length others i (omega arith) j) in
-    ap (λ l. set l (from + i) x) (e ∙ ap (λ l. front ++ l) (drop_more old (from + i) 0 less))
-    ∙ set_at front (get_or old (from + i) 0) (drop ((from + i) + 1) old) x (from + i) long
+    ap (λ l. set l (from + i) x) (e ∙ ap (λ l. front ++ l) (drop_more old (from + i) d less))
+    ∙ set_at front (get_or old (from + i) d) (drop ((from + i) + 1) old) x (from + i) long
     ∙ sym (append_joined front (x ∷ []) (drop ((from + i) + 1) old))
     ∙ ap (λ l. l ++ drop ((from + i) + 1) old) (append_joined (take from old) (take i others) (x ∷ [])
-    ∙ ap (λ l. take from old ++ l) (sym (take_more others i 0 inside)))
+    ∙ ap (λ l. take from old ++ l) (sym (take_more others i d inside)))
     ∙ ap (λ k. (take from old ++ take (i + 1) others) ++ drop k old) next
 
 -- some overwritten, others taken out, and others put in
-pub replaced : (old first second third others : List ℕ) (from to c : ℕ) → c ≤ length others → from + c ≤ to → to ≤ length old
+pub replaced : {A : Type 0} (old first second third others : List A) (from to c : ℕ) → c ≤ length others → from + c ≤ to → to ≤ length old
     → first ≡ take from old ++ take c others ++ drop (from + c) old
     → second ≡ take (from + c) first ++ drop to first
     → third ≡ take (from + c) second ++ drop c others ++ drop (from + c) second
     → third ≡ take from old ++ others ++ drop to old
-replaced old first second third others from to c most order bound is_first is_second is_third =
+replaced {A} old first second third others from to c most order bound is_first is_second is_third =
     is_third
     ∙ (λ i. front_second i ++ drop c others ++ back_second i)
     ∙ ap (λ l. l ++ drop to old) (append_joined (take from old) (take c others) (drop c others)
     ∙ ap (λ l. take from old ++ l) (take-append-drop c others))
   where
-    front : List ℕ
+    front : List A
     front = take from old ++ take c others
 
     long : length front ≡ from + c

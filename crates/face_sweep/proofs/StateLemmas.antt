@@ -1,19 +1,17 @@
--- Sides of edges that are known, and what those of a row tell about a gap in it.
-use Rattle.std.proofs.Common.{◌≡◌, ◌≢◌, ℕ, zero, suc, ◌+◌, ◌-◌, ◌<◌, ◌≤◌, Bool, true, false, List, ◌∷◌}
-use Rattle.std.proofs.Common.{None, Some, length, get_or, drop, add-one, refl, sym, ap, subst, ◌∙◌, arith}
-use Rattle.std.specs.Prelude.{All, nat_eq}
+-- What the edges of a row tell about a gap in it, and what is kept beside them.
+use Rattle.std.proofs.Common.{◌≡◌, ℕ, zero, suc, ◌+◌, ◌-◌, ◌<◌, ◌≤◌, Bool, List, [], ◌∷◌, ◌++◌}
+use Rattle.std.proofs.Common.{length, get_or, take, drop, add-one, refl, sym, ap, subst, ◌∙◌, arith}
+use Rattle.std.specs.Prelude.{slice_range}
 use Rattle.std.proofs.Math.Seq.{drop-cons}
-use Rattle.std.proofs.lemmas.Bool.Decides.{Decides-eqb}
 use Rattle.lay_point.specs.Parity.{xor}
 use Rattle.snap_chains.specs.declared.owner.Owner.{Owner}
 use Rattle.snap_chains.specs.Rounded.{Owned, is_owner_listed}
 use Rattle.face_sweep.specs.declared.counts.Counts.{Counts}
-use Rattle.face_sweep.specs.declared.known.Known.{Known}
+use Rattle.face_sweep.specs.declared.counts.LeftCounts.{LeftCounts}
 use Rattle.face_sweep.specs.declared.sides.Sides.{Sides}
-use Rattle.face_sweep.specs.Counts.{AreCounts}
+use Rattle.face_sweep.specs.Counts.{AreCounts, kept_counts}
 use Rattle.face_rows.specs.Lines.{owners_at}
-use Rattle.face_sweep.specs.Sides.{AreBehind, AreKnown, AreSidesOf, HasChangedAt, IsKnown}
-use Rattle.face_sweep.specs.Sides.{holds_beside, is_odd_in, known_count, sides_at}
+use Rattle.face_sweep.specs.Sides.{AreBehind, AreLeftOf, AreLefts, AreSidesOf, IsKeptLeft, holds_beside, is_odd_in}
 
 pub counts_agree : (c : Counts) (f g : Owner → Bool) → ((o : Owner) → f o ≡ g o) → AreCounts c f → AreCounts c g
 counts_agree c f g same h = coe 0 1 (i. AreCounts c (λ o. same o i)) h
@@ -27,87 +25,86 @@ pub split_at : (numbers : List ℕ) (gap : ℕ) → gap < length numbers → dro
 split_at numbers gap less = drop-cons numbers gap 0 less ∙ ap (λ m. get_or numbers gap 0 ∷ drop m numbers) (sym (add-one gap))
 
 -- one edge more
-pub odd_split : (r : Owned) (numbers : List ℕ) (gap : ℕ) (o : Owner) → gap < length numbers
+odd_split : (r : Owned) (numbers : List ℕ) (gap : ℕ) (o : Owner) → gap < length numbers
     → is_odd_in r (drop gap numbers) o
     ≡ xor (is_owner_listed o (owners_at r (get_or numbers gap 0))) (is_odd_in r (drop (gap + 1) numbers) o)
 odd_split r numbers gap o less = ap (λ l. is_odd_in r l o) (split_at numbers gap less)
 
--- what holds left of an edge, by what holds beside it
-pub odd_left : (r : Owned) (numbers : List ℕ) (gap : ℕ) (o : Owner) → AreBehind r numbers → gap < length numbers
-    → is_odd_in r (drop gap numbers) o
-    ≡ xor (is_owner_listed o (owners_at r (get_or numbers gap 0))) (holds_beside r (get_or numbers gap 0) o)
-odd_left r numbers gap o h less =
-    odd_split r numbers gap o less ∙ ap (xor (is_owner_listed o (owners_at r (get_or numbers gap 0)))) (h gap less o)
+-- so many shapes hold before an edge as hold left of it
+pub odd_before : (r : Owned) (numbers : List ℕ) (gap : ℕ) (counts : Counts) → gap < length numbers
+    → ((o : Owner) → is_odd_in r (drop (gap + 1) numbers) o ≡ holds_beside r (get_or numbers gap 0) o)
+    → AreLeftOf r (get_or numbers gap 0) counts → AreCounts counts (is_odd_in r (drop gap numbers))
+odd_before r numbers gap counts less beside h =
+    counts_agree counts
+    (λ o. xor (is_owner_listed o (owners_at r (get_or numbers gap 0))) (holds_beside r (get_or numbers gap 0) o))
+    (is_odd_in r (drop gap numbers))
+    (λ o. sym (odd_split r numbers gap o less ∙ ap (xor (is_owner_listed o (owners_at r (get_or numbers gap 0)))) (beside o))) h
 
-pub first_left : (r : Owned) (numbers : List ℕ) (known : Known) (m : ℕ) (sides : Sides) → AreBehind r numbers
-    → AreKnown r known → 0 < length numbers → get_or numbers 0 0 ≡ m → sides_at known m ≡ Some sides
-    → AreCounts sides.left (is_odd_in r numbers)
-first_left r numbers known m sides behind h less at is =
-    counts_agree sides.left (λ o. xor (is_owner_listed o (owners_at r m)) (holds_beside r m o)) (is_odd_in r numbers)
-    (λ o. ap (λ k. xor (is_owner_listed o (owners_at r k)) (holds_beside r k o)) (sym at) ∙ sym (odd_left r numbers 0 o behind less))
-    (h.sides m sides is).left
+-- the first of the counts that are kept tells what holds before all
+pub first_left : (r : Owned) (numbers : List ℕ) (lefts : List LeftCounts) (d : LeftCounts) → AreBehind r numbers
+    → AreLefts r numbers lefts → 0 < length lefts → AreCounts (kept_counts (get_or lefts 0 d)) (is_odd_in r numbers)
+first_left r [] [] d behind h some = absurd (omega arith)
+first_left r [] (left ∷ lefts) d behind h some = absurd h
+first_left r (n ∷ numbers) [] d behind h some = absurd h
+first_left r (n ∷ numbers) (left ∷ lefts) d behind h some =
+    odd_before r (n ∷ numbers) 0 (kept_counts left) (omega arith) (behind 0 (omega arith)) h.0
 
--- ---- known sides
-none_some : (x : Sides) → None ≡ Some x → ⊥
-none_some x e = absurd cc
+-- where none are kept there are no edges
+pub none_left : (r : Owned) (numbers : List ℕ) → AreLefts r numbers [] → numbers ≡ []
+none_left r [] h = refl
+none_left r (n ∷ numbers) h = absurd h
 
-pub none_known : (r : Owned) (known : Known) → known_count known ≡ length r.0 → ((n : ℕ) → sides_at known n ≡ None) → AreKnown r known
-none_known r known count none = record {
-  count = count;
-  sides = λ m sides is. absurd (none_some sides (sym (none m) ∙ is));
-}
-
-some_same : (x y : Sides) → Some x ≡ Some y → x ≡ y
-some_same x y e = cc
-
-pub known_more : (r : Owned) (old new : Known) (n : ℕ) (sides : Sides) → HasChangedAt old new n (Some sides)
-    → AreSidesOf (owners_at r n) (holds_beside r n) sides → AreKnown r old → AreKnown r new
-known_more r old new n sides put is h = record {
-  count = put.count ∙ h.count;
-  sides = λ m other found. by_number m other found (nat_eq m n) refl;
-}
-  where
-    by_number : (m : ℕ) (other : Sides) → sides_at new m ≡ Some other → (b : Bool) → nat_eq m n ≡ b
-        → AreSidesOf (owners_at r m) (holds_beside r m) other
-    by_number m other found true t =
-        let same : n ≡ m = sym ((Decides-eqb m n).0 t) in
-        let here : sides ≡ other = some_same sides other (sym put.here ∙ subst (λ k. sides_at new k ≡ Some other) (sym same) found) in
-        subst (λ k. AreSidesOf (owners_at r k) (holds_beside r k) other) same
-        (subst (AreSidesOf (owners_at r n) (holds_beside r n)) here is)
-    by_number m other found false t = h.sides m other (sym (put.others m (λ same. let t' = (Decides-eqb m n).1 same in absurd cc)) ∙ found)
-
--- what is known stays so
-pub still_known : (old new : Known) (n m : ℕ) (sides : Sides) → HasChangedAt old new n (Some sides) → IsKnown old m → IsKnown new m
-still_known old new n m sides put h = by_number (nat_eq m n) refl
-  where
-    by_number : (b : Bool) → nat_eq m n ≡ b → IsKnown new m
-    by_number true t = (sides, ap (sides_at new) ((Decides-eqb m n).0 t) ∙ put.here)
-    by_number false t = (h.0, put.others m (λ same. let t' = (Decides-eqb m n).1 same in absurd cc) ∙ h.1)
-
--- what is forgotten is the edge of one number alone
-pub known_less : (r : Owned) (old new : Known) (n : ℕ) → HasChangedAt old new n None → AreKnown r old → AreKnown r new
-known_less r old new n put h = record {
-  count = put.count ∙ h.count;
-  sides = λ m other found. by_number m other found (nat_eq m n) refl;
-}
-  where
-    by_number : (m : ℕ) (other : Sides) → sides_at new m ≡ Some other → (b : Bool) → nat_eq m n ≡ b
-        → AreSidesOf (owners_at r m) (holds_beside r m) other
-    by_number m other found true t =
-        absurd (none_some other (sym put.here ∙ subst (λ k. sides_at new k ≡ Some other) ((Decides-eqb m n).0 t) found))
-    by_number m other found false t = h.sides m other (sym (put.others m (λ same. let t' = (Decides-eqb m n).1 same in absurd cc)) ∙ found)
-
-pub kept_less : (old new : Known) (n m : ℕ) → HasChangedAt old new m None → n ≢ m → IsKnown old n → IsKnown new n
-kept_less old new n m put apart h = (h.0, put.others n apart ∙ h.1)
-
--- ---- all from an index on
-all_cons : (P : ℕ → Type 0) (x : ℕ) (xs : List ℕ) → P x → All P xs → All P (x ∷ xs)
-all_cons P x xs first rest zero d less = first
-all_cons P x xs first rest (suc k) d less = rest k d (omega arith)
-
-pub all_before : (P : ℕ → Type 0) (numbers : List ℕ) (i : ℕ) → 0 < i → i ≤ length numbers → P (get_or numbers (i - 1) 0)
-    → All P (drop i numbers) → All P (drop (i - 1) numbers)
-all_before P numbers i more bound first rest =
+-- what is kept of one edge more
+pub lefts_before : (r : Owned) (numbers : List ℕ) (lefts : List LeftCounts) (i : ℕ) (left : LeftCounts) → 0 < i → i ≤ length numbers
+    → IsKeptLeft r (get_or numbers (i - 1) 0) left → AreLefts r (drop i numbers) lefts
+    → AreLefts r (drop (i - 1) numbers) (left ∷ lefts)
+lefts_before r numbers lefts i left more bound first rest =
     let back : (i - 1) + 1 ≡ i = omega arith in
-    subst (All P) (sym (split_at numbers (i - 1) (omega arith) ∙ ap (λ k. get_or numbers (i - 1) 0 ∷ drop k numbers) back))
-    (all_cons P (get_or numbers (i - 1) 0) (drop i numbers) first rest)
+    subst (λ l. AreLefts r l (left ∷ lefts))
+    (sym (split_at numbers (i - 1) (omega arith) ∙ ap (λ k. get_or numbers (i - 1) 0 ∷ drop k numbers) back)) (first, rest)
+
+slice_before : (xs : List ℕ) (i to : ℕ) → 0 < i → i ≤ to → to ≤ length xs
+    → slice_range xs (i - 1) to ≡ get_or xs (i - 1) 0 ∷ slice_range xs i to
+slice_before xs i to more le bound =
+    let back : (i - 1) + 1 ≡ i = omega arith in
+    let longer : to - (i - 1) ≡ suc (to - i) = omega arith in
+    ap (λ k. take k (drop (i - 1) xs)) longer ∙ ap (take (suc (to - i))) (split_at xs (i - 1) (omega arith))
+    ∙ ap (λ k. get_or xs (i - 1) 0 ∷ take (to - i) (drop k xs)) back
+
+-- the same of the edges up to one
+pub lefts_between : (r : Owned) (numbers : List ℕ) (lefts : List LeftCounts) (i to : ℕ) (left : LeftCounts) → 0 < i → i ≤ to
+    → to ≤ length numbers → IsKeptLeft r (get_or numbers (i - 1) 0) left → AreLefts r (slice_range numbers i to) lefts
+    → AreLefts r (slice_range numbers (i - 1) to) (left ∷ lefts)
+lefts_between r numbers lefts i to left more le bound first rest =
+    subst (λ l. AreLefts r l (left ∷ lefts)) (sym (slice_before numbers i to more le bound)) (first, rest)
+
+-- ---- parts of a row
+pub lefts_joined : (r : Owned) (numbers others : List ℕ) (lefts more : List LeftCounts) → AreLefts r numbers lefts
+    → AreLefts r others more → AreLefts r (numbers ++ others) (lefts ++ more)
+lefts_joined r [] others [] more h k = k
+lefts_joined r [] others (left ∷ lefts) more h k = absurd h
+lefts_joined r (n ∷ numbers) others [] more h k = absurd h
+lefts_joined r (n ∷ numbers) others (left ∷ lefts) more h k = (h.0, lefts_joined r numbers others lefts more h.1 k)
+
+pub lefts_take : (r : Owned) (count : ℕ) (numbers : List ℕ) (lefts : List LeftCounts) → AreLefts r numbers lefts
+    → AreLefts r (take count numbers) (take count lefts)
+lefts_take r zero numbers lefts h = tt
+lefts_take r (suc count) [] [] h = tt
+lefts_take r (suc count) [] (left ∷ lefts) h = absurd h
+lefts_take r (suc count) (n ∷ numbers) [] h = absurd h
+lefts_take r (suc count) (n ∷ numbers) (left ∷ lefts) h = (h.0, lefts_take r count numbers lefts h.1)
+
+pub lefts_drop : (r : Owned) (count : ℕ) (numbers : List ℕ) (lefts : List LeftCounts) → AreLefts r numbers lefts
+    → AreLefts r (drop count numbers) (drop count lefts)
+lefts_drop r zero numbers lefts h = h
+lefts_drop r (suc count) [] [] h = tt
+lefts_drop r (suc count) [] (left ∷ lefts) h = absurd h
+lefts_drop r (suc count) (n ∷ numbers) [] h = absurd h
+lefts_drop r (suc count) (n ∷ numbers) (left ∷ lefts) h = lefts_drop r count numbers lefts h.1
+
+-- beside each edge something is kept
+pub lefts_long : (r : Owned) (numbers : List ℕ) (lefts : List LeftCounts) → AreLefts r numbers lefts → length lefts ≡ length numbers
+lefts_long r [] [] h = refl
+lefts_long r [] (left ∷ lefts) h = absurd h
+lefts_long r (n ∷ numbers) [] h = absurd h
+lefts_long r (n ∷ numbers) (left ∷ lefts) h = ap suc (lefts_long r numbers lefts h.1)

@@ -36,7 +36,7 @@ get_left [] ys i less = absurd (omega arith)
 get_left (x ∷ xs) ys zero less = refl
 get_left (x ∷ xs) ys (suc i) less = get_left xs ys i (omega arith)
 
-pub append_joined : (xs ys zs : List ℕ) → (xs ++ ys) ++ zs ≡ xs ++ (ys ++ zs)
+pub append_joined : {A : Type 0} (xs ys zs : List A) → (xs ++ ys) ++ zs ≡ xs ++ (ys ++ zs)
 append_joined [] ys zs = refl
 append_joined (x ∷ xs) ys zs = ap (λ l. x ∷ l) (append_joined xs ys zs)
 

@@ -4,6 +4,7 @@ use Rattle.snap_chains.specs.declared.owner.Input.{Input}
 use Rattle.snap_chains.specs.declared.owner.Input.TheVariants.{First, Second}
 use Rattle.snap_chains.specs.declared.owner.Owner.{Owner}
 use Rattle.face_sweep.specs.declared.counts.Counts.{Counts}
+use Rattle.face_sweep.specs.declared.counts.LeftCounts.{LeftCounts}
 
 -- how many of the numbers below n pass
 abbrev pub count : (ℕ → Bool) → ℕ → ℕ
@@ -35,3 +36,7 @@ nth_shape input shape = record { input = input; shape = shape }
 abbrev pub CountShape : Counts → Input → Bool → Type 0
 CountShape counts input inside =
     (shape : ℕ) × (holds : Owner → Bool) × AreCounts counts holds × (holds (nth_shape input shape) ≡ inside)
+
+-- the counts in the form in which a row keeps them
+abbrev pub kept_counts : LeftCounts → Counts
+kept_counts left = record { first = left.first; second = left.second }

@@ -1,36 +1,15 @@
 -- The shapes that hold on the two sides of an edge.
-use Rattle.std.specs.Prelude.{
-  ◌≡◌,
-  ◌≢◌,
-  ℕ,
-  ◌+◌,
-  ◌<◌,
-  ◌==◌,
-  pos,
-  ◌+ℤ◌,
-  Bool,
-  if◌then◌else◌,
-  Contains,
-  IsTrue,
-  List,
-  None,
-  Option,
-  Some,
-  drop,
-  length,
-  slice_get,
-  slice_index,
-}
+use Rattle.std.specs.Prelude.{◌≡◌, ℕ, ◌+◌, ◌<◌, pos, ◌+ℤ◌, Bool, Contains, IsTrue, List, drop, length, slice_index}
+use Rattle.std.specs.List.{AllZip}
 use Rattle.lay_point.specs.Parity.{xor, parity}
 use Rattle.snap_chains.specs.declared.owner.Owner.{Owner}
 use Rattle.snap_chains.specs.Rounded.{Owned, is_owner_listed}
 use Rattle.face_rows.specs.Labels.{answer_on, odd_of, owned_items}
 use Rattle.face_rows.specs.declared.op.Op.{Op}
-use Rattle.slab.specs.Slab.{Slab, get}
-use Rattle.face_sweep.specs.declared.known.Kept.{Kept}
-use Rattle.face_sweep.specs.declared.known.Known.{Known}
+use Rattle.face_sweep.specs.declared.counts.Counts.{Counts}
+use Rattle.face_sweep.specs.declared.counts.LeftCounts.{LeftCounts}
 use Rattle.face_sweep.specs.declared.sides.Sides.{Sides}
-use Rattle.face_sweep.specs.Counts.{AreCounts}
+use Rattle.face_sweep.specs.Counts.{AreCounts, kept_counts}
 use Rattle.face_rows.specs.Lines.{edge_at, owners_at}
 use Rattle.face_rows.specs.Operations.{answer}
 
@@ -60,33 +39,14 @@ IsDifference op sides result = (holds : Owner → Bool) (owners shapes : List Ow
     → ((o : Owner) → IsTrue (is_owner_listed o owners) → Contains shapes o)
     → result ≡ xor (answer_on (answer op) shapes holds) (answer_on (answer op) shapes (λ o. xor (is_owner_listed o owners) (holds o)))
 
--- the sides, if they are of the edge of this number
-abbrev pub sides_if : ℕ → Option Kept → Option Sides
-sides_if n None = None
-sides_if n (Some kept) = if kept.number == n then Some kept.sides else None
+-- so many shapes hold left of the edge of this number, or below a level edge
+abbrev pub AreLeftOf : Owned → ℕ → Counts → Type 0
+AreLeftOf r n counts = AreCounts counts (λ o. xor (is_owner_listed o (owners_at r n)) (holds_beside r n o))
 
--- what is kept under a key of the edge of this number
-abbrev pub sides_under : Slab Kept → ℕ → Option ℕ → Option Sides
-sides_under kept n None = None
-sides_under kept n (Some key) = sides_if n (get kept key)
+-- the same, in the form in which a row keeps it
+abbrev pub IsKeptLeft : Owned → ℕ → LeftCounts → Type 0
+IsKeptLeft r n left = AreLeftOf r n (kept_counts left)
 
-abbrev pub sides_at : Known → ℕ → Option Sides
-sides_at known n = sides_under known.kept n (slice_get known.keys.items n)
-
--- for how many edges there is room
-abbrev pub known_count : Known → ℕ
-known_count known = length known.keys.items
-
--- the edge of this number has these sides now, or none; of no other edge it is different
-pub record HasChangedAt (old new : Known) (n : ℕ) (sides : Option Sides) : Type 0 where
-  pub count : known_count new ≡ known_count old
-  pub here : sides_at new n ≡ sides
-  pub others : (m : ℕ) → m ≢ n → sides_at new m ≡ sides_at old m
-
--- those that are known are those of the edges of their numbers
-pub record AreKnown (r : Owned) (known : Known) : Type 0 where
-  pub count : known_count known ≡ length r.0
-  pub sides : (n : ℕ) (sides : Sides) → sides_at known n ≡ Some sides → AreSidesOf (owners_at r n) (holds_beside r n) sides
-
-abbrev pub IsKnown : Known → ℕ → Type 0
-IsKnown known n = (sides : Sides) × (sides_at known n ≡ Some sides)
+-- beside each of these edges is what holds left of it
+abbrev pub AreLefts : Owned → List ℕ → List LeftCounts → Type 0
+AreLefts r numbers lefts = AllZip (IsKeptLeft r) numbers lefts

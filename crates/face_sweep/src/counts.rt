@@ -1,20 +1,57 @@
 //! How many shapes of each input hold.
-ghost use Rattle.std.specs.Prelude.{◌≡◌, ℕ, ◌<◌, ◌≤◌, ◌+◌, ◌-◌, ◌^◌, Bool, Contains, IsTrue, List, true, false, if◌then◌else◌};
+ghost use Rattle.std.specs.Prelude.{◌≡◌, ℕ, ◌<◌, ◌≤◌, ◌+◌, ◌-◌, ◌^◌, Bool, Contains, IfOk, IsTrue, List, true, false, if◌then◌else◌};
 ghost use Rattle.lay_point.specs.Parity.{xor};
 ghost use Rattle.snap_chains.specs.declared.owner.Owner.{Owner};
 ghost use Rattle.snap_chains.specs.Owners.{owner_eq};
 ghost use Rattle.face_rows.specs.Labels.{answer_on};
-ghost use Rattle.face_sweep.specs.Counts.{AreCounts, CountOwner, CountShape, nth_shape};
+ghost use Rattle.face_sweep.specs.Counts.{AreCounts, CountOwner, CountShape, kept_counts, nth_shape};
 ghost use Rattle.face_rows.specs.Operations.{answer};
 
 use face_rows::Op;
 use snap_chains::{Input, Owner};
+use std::alloc::AllocError;
 
 /// How many shapes of each input hold.
 #[derive(Clone, Copy, Debug)]
-pub(crate) struct Counts {
-    pub first: u64,
-    pub second: u64,
+pub struct Counts {
+    pub(crate) first: u64,
+    pub(crate) second: u64,
+}
+
+/// How many shapes of each input hold left of an edge, in the form in which a row keeps it.
+#[derive(Clone, Copy, Debug)]
+pub struct LeftCounts {
+    first: u32,
+    second: u32,
+}
+
+impl LeftCounts {
+    /// Returns the counts in the form of a row.
+    ///
+    /// # Errors
+    ///
+    /// `AllocError`, if 2^32 shapes of an input hold.
+    pub fn of(counts: Counts) -> Result<LeftCounts, AllocError>
+        ensures { IfOk result (λ left. kept_counts left ≡ counts) }
+    {
+        if counts.first > u64::from(u32::MAX) || counts.second > u64::from(u32::MAX) {
+            return Err(AllocError);
+        }
+        Ok(LeftCounts {
+            first: counts.first as u32,
+            second: counts.second as u32,
+        })
+    }
+
+    /// Returns the counts.
+    pub(crate) fn counts(self) -> Counts
+        ensures { result ≡ kept_counts self }
+    {
+        Counts {
+            first: u64::from(self.first),
+            second: u64::from(self.second),
+        }
+    }
 }
 
 impl Counts {

@@ -23,8 +23,8 @@
 //! - [`Sides`] has how many shapes of each input hold on each side of an edge (`specs/Counts.antt`,
 //!   `specs/Sides.antt`). Right of an edge holds what holds left of the next; left of it the owners of the edge
 //!   are turned. Above a level edge holds what the edges right of its left end tell.
-//! - [`Known`] keeps the sides of the edges of the list. It is as long as there are edges, but of most
-//!   edges has a key alone.
+//! - [`LeftCounts`] is what a row keeps beside each of its edges: how many shapes hold left of it. So
+//!   [`counts_before`] tells what holds in the gap before an edge, and nothing is as long as there are edges.
 //! - [`Reach`] is the box round each shape's edges (`specs/Reaches.antt`). Of an edge on its border
 //!   the box tells at once whether the shape holds beside it: right of a left side and above a
 //!   bottom it does, right of a right side and above a top it doesn't. Most edges have one owner: what its box
@@ -39,14 +39,14 @@
 //!
 //! No type keeps what the list is: each call requires it. Of the clauses of [`Sides::of`],
 //! `IsReach` says that the boxes are those of the edges, `AreRight` that the lists of single shapes have the
-//! edges right of the point, and `AreKnown` that the sides that are kept are those of their edges.
+//! edges right of the point, and `AreCounts` that so many shapes hold right of the edge.
 //!
 //! # Files
 //!
 //! - `stops.rt`: the points of the sweep; `ends.rt`: the ends of edges in its order.
 //! - `place.rt`, `side.rt`: where a point is among the edges of the list.
 //! - `passing.rt`: how the list passes a point; `laws.rt`: why it is then that of the next.
-//! - `sides.rt`, `counts.rt`, `known.rt`: what holds beside an edge.
+//! - `sides.rt`, `counts.rt`: what holds beside an edge.
 //! - `reach.rt`, `boxes.rt`, `extent.rt`, `traced.rt`, `turns.rt`, `own_rows.rt`: whether one shape holds beside an edge.
 #![tactic(auto)]
 
@@ -54,7 +54,6 @@ mod boxes;
 mod counts;
 mod ends;
 mod extent;
-mod known;
 mod laws;
 mod own_rows;
 mod passing;
@@ -66,11 +65,11 @@ mod stops;
 mod traced;
 mod turns;
 
-pub use known::Known;
+pub use counts::{Counts, LeftCounts};
 pub use laws::{nexts_tell, points_pass};
 pub use own_rows::OwnRows;
 pub use passing::{group_end, replace};
 pub use place::place_of_point;
 pub use reach::Reach;
-pub use sides::Sides;
+pub use sides::{Sides, counts_before};
 pub use stops::{Stop, Stops};

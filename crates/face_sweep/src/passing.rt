@@ -53,21 +53,21 @@ const FEW: usize = 8;
 ///
 /// As many as there are on both sides are overwritten. Where more elements go than come, or fewer, those behind
 /// them are moved: once for each, if they are few, and else twice in all.
-pub fn replace(
+pub fn replace<T: Copy>(
     alloc: Global,
-    numbers: &mut Vec<usize>,
+    list: &mut Vec<T>,
     from: usize,
     to: usize,
-    others: &[usize],
+    others: &[T],
 ) -> Result<(), AllocError>
     requires order { from ≤ to }
-    requires bound { to ≤ length numbers.old.items }
-    ensures { OnOk result (numbers.new.items ≡ take from numbers.old.items ++ others.now ++ drop to numbers.old.items) }
+    requires bound { to ≤ length list.old.items }
+    ensures { OnOk result (list.new.items ≡ take from list.old.items ++ others.now ++ drop to list.old.items) }
 {
     if differ_by_many(others.len(), to - from) {
-        replace_all(alloc, numbers, from, to, others)?;
+        replace_all(alloc, list, from, to, others)?;
     } else {
-        replace_few(numbers, from, to, others)?;
+        replace_few(list, from, to, others)?;
     }
     Ok(())
 }
@@ -78,72 +78,72 @@ fn differ_by_many(first: usize, second: usize) -> bool {
 }
 
 /// Replaces the elements from `from` up to `to` by others, with a copy of those behind them.
-fn replace_all(
+fn replace_all<T: Copy>(
     alloc: Global,
-    numbers: &mut Vec<usize>,
+    list: &mut Vec<T>,
     from: usize,
     to: usize,
-    others: &[usize],
+    others: &[T],
 ) -> Result<(), AllocError>
     requires order { from ≤ to }
-    requires bound { to ≤ length numbers.old.items }
-    ensures { OnOk result (numbers.new.items ≡ take from numbers.old.items ++ others.now ++ drop to numbers.old.items) }
+    requires bound { to ≤ length list.old.items }
+    ensures { OnOk result (list.new.items ≡ take from list.old.items ++ others.now ++ drop to list.old.items) }
 {
     let mut behind = Vec::new(alloc);
-    behind.extend_from_slice(&numbers[to..])?;
-    numbers.truncate(from);
-    numbers.extend_from_slice(others)?;
-    numbers.extend_from_slice(behind.as_slice())?;
+    behind.extend_from_slice(&list[to..])?;
+    list.truncate(from);
+    list.extend_from_slice(others)?;
+    list.extend_from_slice(behind.as_slice())?;
     Ok(())
 }
 
 /// Replaces the elements from `from` up to `to` by others, of which there are about as many.
-fn replace_few(
-    numbers: &mut Vec<usize>,
+fn replace_few<T: Copy>(
+    list: &mut Vec<T>,
     from: usize,
     to: usize,
-    others: &[usize],
+    others: &[T],
 ) -> Result<(), AllocError>
     requires order { from ≤ to }
-    requires bound { to ≤ length numbers.old.items }
-    ensures { OnOk result (numbers.new.items ≡ take from numbers.old.items ++ others.now ++ drop to numbers.old.items) }
+    requires bound { to ≤ length list.old.items }
+    ensures { OnOk result (list.new.items ≡ take from list.old.items ++ others.now ++ drop to list.old.items) }
 {
     let common = others.len().min(to - from);
-    overwrite(numbers, from, &others[..common]);
-    take_out(numbers, from + common, to);
-    put_in(numbers, from + common, &others[common..])?;
+    overwrite(list, from, &others[..common]);
+    take_out(list, from + common, to);
+    put_in(list, from + common, &others[common..])?;
     Ok(())
 }
 
 /// Writes the others over the elements from `from` on.
-fn overwrite(numbers: &mut Vec<usize>, from: usize, others: &[usize])
-    requires { from + length others.now ≤ length numbers.old.items }
-    ensures { numbers.new.items
-        ≡ take from numbers.old.items ++ others.now ++ drop (from + length others.now) numbers.old.items }
+fn overwrite<T: Copy>(list: &mut Vec<T>, from: usize, others: &[T])
+    requires { from + length others.now ≤ length list.old.items }
+    ensures { list.new.items
+        ≡ take from list.old.items ++ others.now ++ drop (from + length others.now) list.old.items }
 {
     for index in 0..others.len() {
-        numbers[from + index] = others[index];
+        list[from + index] = others[index];
     }
 }
 
 /// Takes out the elements from `from` up to `to`.
-fn take_out(numbers: &mut Vec<usize>, from: usize, to: usize)
+fn take_out<T: Copy>(list: &mut Vec<T>, from: usize, to: usize)
     requires order { from ≤ to }
-    requires bound { to ≤ length numbers.old.items }
-    ensures { numbers.new.items ≡ take from numbers.old.items ++ drop to numbers.old.items }
+    requires bound { to ≤ length list.old.items }
+    ensures { list.new.items ≡ take from list.old.items ++ drop to list.old.items }
 {
     for _ in from..to {
-        numbers.remove(from);
+        list.remove(from);
     }
 }
 
 /// Puts the others in before the element at `at`.
-fn put_in(numbers: &mut Vec<usize>, at: usize, others: &[usize]) -> Result<(), AllocError>
-    requires { at ≤ length numbers.old.items }
-    ensures { OnOk result (numbers.new.items ≡ take at numbers.old.items ++ others.now ++ drop at numbers.old.items) }
+fn put_in<T: Copy>(list: &mut Vec<T>, at: usize, others: &[T]) -> Result<(), AllocError>
+    requires { at ≤ length list.old.items }
+    ensures { OnOk result (list.new.items ≡ take at list.old.items ++ others.now ++ drop at list.old.items) }
 {
     for index in 0..others.len() {
-        numbers.insert(at + index, others[index])?;
+        list.insert(at + index, others[index])?;
     }
     Ok(())
 }

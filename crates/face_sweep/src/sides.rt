@@ -1,5 +1,5 @@
 //! The shapes that hold on the two sides of an edge.
-ghost use Rattle.std.specs.Prelude.{◌≡◌, ◌<◌, All, true, length};
+ghost use Rattle.std.specs.Prelude.{◌≡◌, ◌<◌, true, length};
 ghost use Rattle.lay_point.specs.Parity.{xor};
 ghost use Rattle.snap_chains.specs.declared.owner.Owner.{Owner};
 ghost use Rattle.snap_chains.specs.Rounded.{is_owner_listed};
@@ -10,17 +10,15 @@ ghost use Rattle.face_sweep.specs.OwnRows.{AreRight, HaveLists, TellBeside};
 ghost use Rattle.face_sweep.specs.Reaches.{IsReach, keys_of};
 ghost use Rattle.face_sweep.specs.Sides.{
   AreBehind,
-  AreKnown,
+  AreLefts,
   AreSidesOf,
   IsDifference,
-  IsKnown,
   holds_beside,
   is_odd_in,
 };
 
-use crate::counts::Counts;
+use crate::counts::{Counts, LeftCounts};
 use crate::extent::told_by;
-use crate::known::Known;
 use crate::own_rows::OwnRows;
 use crate::reach::Reach;
 use crate::turns::Turn;
@@ -38,9 +36,9 @@ pub struct Sides {
 }
 
 impl Sides {
-    /// Returns the sides of the edge of this number. Right of it in its row are the edges `behind`, whose sides
-    /// are all known. Of the lists of single shapes these have the edges that aren't left of the point, or all
-    /// if there is no point.
+    /// Returns the sides of the edge of this number, right of which so many shapes hold. Right of it in its row are the
+    /// edges `behind`. Of the lists of single shapes these have the edges that aren't left of the point, or all if there
+    /// is no point.
     ///
     /// # Cost
     ///
@@ -49,7 +47,7 @@ impl Sides {
     pub fn of(
         edges: &CleanEdges,
         behind: &[usize],
-        known: &Known,
+        right: Counts,
         reach: &Reach,
         own: &OwnRows,
         point: Option<Point>,
@@ -57,19 +55,22 @@ impl Sides {
     ) -> Sides
         requires sound { AreSound edges.now }
         requires number { number < length edges.now.0 }
-        requires behind { AreBehind edges.now behind.now }
-        requires given { All (λ n. n < length edges.now.0) behind.now }
-        requires known { AreKnown edges.now known.now }
-        requires all { All (IsKnown known.now) behind.now }
+        requires right { AreCounts right (is_odd_in edges.now behind.now) }
         requires reach { IsReach edges.now reach.now }
         requires room { HaveLists edges.now (keys_of reach.now) own.now }
         requires own { AreRight edges.now (keys_of reach.now) point behind.now own.now }
         requires beside { (o : Owner) → is_odd_in edges.now behind.now o ≡ holds_beside edges.now number o }
         ensures { AreSidesOf (owners_at edges.now number) (is_odd_in edges.now behind.now) result }
     {
-        let right = right_counts(edges, behind, known);
         let left = left_counts(edges, behind, reach, own, point, number, right);
         Sides { right, left }
+    }
+
+    /// Returns how many shapes hold left of the edge.
+    pub fn left(&self) -> Counts
+        ensures { result ≡ self.now.left }
+    {
+        self.left
     }
 
     /// Returns whether the operation's answers on the two sides differ.
@@ -80,19 +81,17 @@ impl Sides {
     }
 }
 
-/// Returns how many shapes hold left of the first of these edges of a row: right of a gap before it.
-fn right_counts(edges: &CleanEdges, behind: &[usize], known: &Known) -> Counts
-    requires behind { AreBehind edges.now behind.now }
-    requires known { AreKnown edges.now known.now }
-    requires given { All (λ n. n < length edges.now.0) behind.now }
-    requires all { All (IsKnown known.now) behind.now }
-    ensures { AreCounts result (is_odd_in edges.now behind.now) }
+/// Returns how many shapes hold left of these edges of a row, which are all from some place on: left of the first, of
+/// which the row keeps it, or right of all if there are none.
+pub fn counts_before(_edges: &CleanEdges, _behind: &[usize], lefts: &[LeftCounts]) -> Counts
+    requires behind { AreBehind _edges.now _behind.now }
+    requires lefts { AreLefts _edges.now _behind.now lefts.now }
+    ensures { AreCounts result (is_odd_in _edges.now _behind.now) }
 {
-    if behind.is_empty() {
+    if lefts.is_empty() {
         return Counts::none();
     }
-    let next = behind[0];
-    known.get(next).unwrap().left
+    lefts[0].counts()
 }
 
 /// Returns how many shapes hold left of the edge of this number, right of which these do.

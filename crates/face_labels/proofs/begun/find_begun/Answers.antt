@@ -1,19 +1,17 @@
-use Rattle.std.proofs.Common.{◌≡◌, ◌<◌, ◌≤◌, ◌+◌, ◌++◌, ◌-◌, ⊎_elim, drop, get_or, length, take, sym, ap, subst, ◌∙◌, arith}
-use Rattle.std.specs.Prelude.{All}
+use Rattle.std.proofs.Common.{◌≡◌, ◌<◌, ◌≤◌, ◌+◌, ◌++◌, ◌-◌, ◌∷◌, [], ⊎_elim, drop, get_or, length, reverse, take}
+use Rattle.std.proofs.Common.{sym, ap, subst, ◌∙◌, arith}
+use Rattle.std.specs.Prelude.{slice_range}
 use Rattle.std.proofs.lemmas.Bool.{cases_lt}
+use Rattle.std.proofs.lemmas.List.{reverse-append}
 use Rattle.snap_chains.specs.declared.owner.Owner.{Owner}
+use Rattle.face_sweep.specs.Counts.{AreCounts}
 use Rattle.face_sweep.specs.OwnRows.{AreOwn, own_edge, own_of}
-use Rattle.face_sweep.specs.Sides.{IsKnown}
+use Rattle.face_sweep.specs.Sides.{AreLeftOf, AreLefts, is_odd_in}
 use Rattle.face_sweep.proofs.OwnLemmas.{own_agree, own_cut}
-use Rattle.face_sweep.proofs.StateLemmas.{all_before}
+use Rattle.face_sweep.proofs.StateLemmas.{lefts_between, odd_before}
 use Rattle.face_labels.specs.RowSides.{HasLabel}
-use Rattle.face_labels.proofs.LineLemmas.{behind_at, beside_at, cut_later, own_joined, own_split}
+use Rattle.face_labels.proofs.LineLemmas.{beside_at, cut_later, own_joined, own_split}
 use Rattle.face_labels.proofs.begun.find_begun.Goals as goal
-
-pub find_labelled-requires-clause-behind : goal.find_labelled-requires-clause-behind
-find_labelled-requires-clause-behind c =
-    behind_at c.args.edges.now c.args.numbers.now c.args.group.from c.requires.behind ((c.loop-index.index - 1) + 1)
-    (omega (arith, c.loop-index-test.true))
 
 pub find_labelled-requires-clause-beside : goal.find_labelled-requires-clause-beside
 find_labelled-requires-clause-beside c =
@@ -21,11 +19,12 @@ find_labelled-requires-clause-beside c =
     (omega (arith, c.loop-index-test.true))
     (omega (arith, c.loop-index-test.true, c.loop-index.invariant.bound, c.requires.bound))
 
-pub find_labelled-requires-clause-all : goal.find_labelled-requires-clause-all
-find_labelled-requires-clause-all c =
+pub find_labelled-requires-clause-right : goal.find_labelled-requires-clause-right
+find_labelled-requires-clause-right c =
     let i = c.loop-index.index in
     let back : (i - 1) + 1 ≡ i = omega (arith, c.loop-index-test.true) in
-    subst (λ k. All (IsKnown c.loop-index.known) (drop k c.args.numbers.now)) (sym back) c.loop-index.invariant.all
+    subst (λ k. AreCounts c.loop-index.right (is_odd_in c.args.edges.now (drop k c.args.numbers.now))) (sym back)
+    c.loop-index.invariant.right
 
 pub find_labelled-requires-clause-own : goal.find_labelled-requires-clause-own
 find_labelled-requires-clause-own c =
@@ -53,7 +52,9 @@ loop-index-preserved c =
     let from = c.args.group.from in
     let i = c.loop-index.index in
     let invariant = c.loop-index.invariant in
-    let step = c.in_ok-find_labelled.ensures in
+    let step = c.in_ok-right.ensures in
+    let found = c.in_ok-left.left in
+    let old = c.loop-index.lefts.items in
     let some : 0 < i = omega (arith, c.loop-index-test.true) in
     let back : (i - 1) + 1 ≡ i = omega (arith, some) in
     let within : i ≤ length numbers = omega (arith, invariant.bound, c.requires.bound) in
@@ -65,10 +66,12 @@ loop-index-preserved c =
     record {
       from = omega (arith, c.loop-index-test.true);
       bound = omega (arith, invariant.bound);
-      known = step.known;
-      kept = λ m h. step.kept m (invariant.kept m h);
-      all = all_before (IsKnown c.find_labelled.new.known) numbers i some within step.here
-          (λ k d less. step.kept (get_or (drop i numbers) k d) (invariant.all k d less));
+      right = odd_before r numbers (i - 1) c.in_ok-right.right less
+          (beside_at r numbers from c.requires.behind (i - 1) (omega (arith, c.loop-index-test.true)) less) step.left;
+      lefts = subst (λ l. AreLefts r (slice_range numbers (i - 1) c.args.group.to) l)
+          (sym (ap reverse c.in_ok-push.ensures.items ∙ reverse-append old (found ∷ [])))
+          (lefts_between r numbers (reverse old) i c.args.group.to found some invariant.bound c.requires.bound
+          (subst (AreLeftOf r n) (sym c.in_ok-left.ensures) step.left) invariant.lefts);
       room = step.room;
       own = own_agree keys c.find_labelled.new.own (λ o. (right o ++ own_edge r o n) ++ left o)
           (λ o. own_of r o (drop (i - 1) numbers) ++ left o)
@@ -86,10 +89,14 @@ loop-index-preserved c =
           (cases_lt k i);
     }
 
-pub returns-clause-all : goal.returns-clause-all
-returns-clause-all c =
+pub returns-clause-lefts : goal.returns-clause-lefts
+returns-clause-lefts c =
+    let r = c.args.edges.now in
+    let numbers = c.args.numbers.now in
+    let to = c.args.group.to in
     let last : c.loop-index.index ≡ c.args.group.from = omega (arith, c.loop-index-test.false, c.loop-index.invariant.from) in
-    subst (λ k. All (IsKnown c.loop-index.known) (drop k c.args.numbers.now)) last c.loop-index.invariant.all
+    subst (AreLefts r (slice_range numbers c.args.group.from to)) (sym c.reverse.ensures.items)
+    (subst (λ k. AreLefts r (slice_range numbers k to) (reverse c.loop-index.lefts.items)) last c.loop-index.invariant.lefts)
 
 pub returns-clause-own : goal.returns-clause-own
 returns-clause-own c =

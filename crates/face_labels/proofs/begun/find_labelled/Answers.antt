@@ -1,29 +1,23 @@
-use Rattle.std.proofs.Common.{◌≡◌, ◌<◌, ◌+◌, ◌∙◌, drop, get_or, length, subst, arith}
+use Rattle.std.proofs.Common.{◌≡◌, ◌<◌, ◌+◌, ◌∙◌, drop, get_or, length, sym, subst, arith}
 use Rattle.std.proofs.Math.ListN.{length-set}
 use Rattle.std.proofs.lemmas.List.{take_rest}
 use Rattle.face_rows.specs.Labels.{differs, owned_items}
 use Rattle.face_rows.specs.Lines.{owned_item_at, owners_at}
 use Rattle.face_rows.specs.Operations.{answer}
-use Rattle.face_sweep.specs.Sides.{AreSidesOf, holds_beside, is_odd_in}
+use Rattle.face_sweep.specs.Sides.{AreLeftOf, AreSidesOf, holds_beside, is_odd_in}
 use Rattle.face_sweep.proofs.LabelLemmas.{label_beside}
-use Rattle.face_sweep.proofs.StateLemmas.{known_more, sides_agree, still_known}
+use Rattle.face_sweep.proofs.StateLemmas.{sides_agree}
 use Rattle.face_labels.proofs.WrittenLemmas.{label_here, label_kept}
 use Rattle.face_labels.proofs.begun.find_labelled.Goals as goal
-
-pub put-requires : goal.put-requires
-put-requires c = omega (arith, c.requires.given c.args.index 0 c.requires.index, c.requires.known.count)
 
 pub returns : goal.returns
 returns c =
     let r = c.args.edges.now in
     let op = c.args.op in
     let numbers = c.args.numbers.now in
-    let old = c.args.known.now in
-    let new = c.put.new.self in
     let i = c.args.index in
     let n = get_or numbers i 0 in
     let sides = c.of-sides.result in
-    let put = c.in_ok-put.ensures in
     let labels = c.args.labels.now.items in
     let inside : n < length labels = omega (arith, c.requires.given i 0 c.requires.index, c.requires.count) in
     let own : AreSidesOf (owners_at r n) (holds_beside r n) sides =
@@ -33,11 +27,9 @@ returns c =
     let is : label ≡ differs (answer op) (owned_items r) (owned_item_at r n) =
     label_beside op r n c.requires.sound (c.requires.given i 0 c.requires.index) sides own label c.differs.ensures in
     record {
-      known = known_more r old new n sides put own c.requires.known;
-      kept = λ m h. still_known old new n m sides put h;
-      here = (sides, put.here);
-      room = c.in_ok-put-2.ensures.room;
-      put = c.in_ok-put-2.ensures.put;
+      left = subst (AreLeftOf r n) (sym c.left.ensures) own.left;
+      room = c.in_ok-put.ensures.room;
+      put = c.in_ok-put.ensures.put;
       count = length-set labels n label ∙ c.requires.count;
       written = λ m h. label_kept op r labels n label m inside is h;
       label = label_here op r labels n label inside is;

@@ -1,32 +1,19 @@
-use Rattle.std.proofs.Common.{◌<◌, ◌+◌, ◌++◌, [], ℕ, drop, get_or, length, refl, sym, ap, subst, ◌∙◌, arith}
-use Rattle.std.specs.Prelude.{All}
+use Rattle.std.proofs.Common.{◌+◌, ◌++◌, [], drop, get_or, refl, sym, ap, subst, ◌∙◌}
 use Rattle.std.proofs.lemmas.List.{append-nil, take_rest}
-use Rattle.std.proofs.lemmas.List.Elements.{All-drop}
 use Rattle.snap_chains.specs.declared.owner.Owner.{Owner}
 use Rattle.face_rows.specs.Lines.{owners_at}
+use Rattle.face_sweep.specs.Counts.{AreCounts}
 use Rattle.face_sweep.specs.OwnRows.{own_edge, own_of}
-use Rattle.face_sweep.specs.Sides.{AreBehind, AreSidesOf, IsKnown, holds_beside, is_odd_in}
+use Rattle.face_sweep.specs.Sides.{AreLeftOf, AreSidesOf, holds_beside, is_odd_in}
 use Rattle.face_sweep.proofs.OwnLemmas.{own_agree}
-use Rattle.face_sweep.proofs.StateLemmas.{known_more, sides_agree, still_known}
+use Rattle.face_sweep.proofs.StateLemmas.{sides_agree}
 use Rattle.face_labels.proofs.LineLemmas.{own_split}
 use Rattle.face_labels.proofs.finds.find_one.Goals as goal
 
-pub put-requires : goal.put-requires
-put-requires c = omega (arith, c.requires.given c.args.index 0 c.requires.index, c.requires.known.count)
-
-pub of-sides-requires-clause-behind : goal.of-sides-requires-clause-behind
-of-sides-requires-clause-behind c =
-    subst (AreBehind c.args.edges.now) (sym (take_rest c.args.numbers.now (c.args.index + 1))) c.requires.behind
-
-pub of-sides-requires-clause-given : goal.of-sides-requires-clause-given
-of-sides-requires-clause-given c =
-    let P = λ (n : ℕ). n < length c.args.edges.now.0 in
-    subst (All P) (sym (take_rest c.args.numbers.now (c.args.index + 1)))
-    (All-drop P (c.args.index + 1) c.args.numbers.now c.requires.given)
-
-pub of-sides-requires-clause-all : goal.of-sides-requires-clause-all
-of-sides-requires-clause-all c =
-    subst (All (IsKnown c.args.known.now)) (sym (take_rest c.args.numbers.now (c.args.index + 1))) c.requires.all
+pub of-sides-requires-clause-right : goal.of-sides-requires-clause-right
+of-sides-requires-clause-right c =
+    subst (λ l. AreCounts c.args.right (is_odd_in c.args.edges.now l)) (sym (take_rest c.args.numbers.now (c.args.index + 1)))
+    c.requires.right
 
 pub of-sides-requires-clause-own : goal.of-sides-requires-clause-own
 of-sides-requires-clause-own c =
@@ -49,23 +36,18 @@ returns c =
     let r = c.args.edges.now in
     let numbers = c.args.numbers.now in
     let keys = c.args.reach.now.traced.items in
-    let old = c.args.known.now in
-    let new = c.put.new.self in
     let i = c.args.index in
     let n = get_or numbers i 0 in
     let sides = c.of-sides.result in
-    let put = c.in_ok-put.ensures in
     let own : AreSidesOf (owners_at r n) (holds_beside r n) sides =
     sides_agree (owners_at r n) (is_odd_in r (drop (i + 1) numbers)) (holds_beside r n) sides c.requires.beside
     (subst (λ l. AreSidesOf (owners_at r n) (is_odd_in r l) sides) (take_rest numbers (i + 1)) c.of-sides.ensures) in
     let behind = λ (o : Owner). own_of r o (drop (i + 1) numbers) in
     record {
-      known = known_more r old new n sides put own c.requires.known;
-      kept = λ m h. still_known old new n m sides put h;
-      here = (sides, put.here);
-      room = c.in_ok-put-2.ensures.room;
-      own = own_agree keys c.put-2.new.self (λ o. (behind o ++ own_edge r o n) ++ []) (λ o. own_of r o (drop i numbers))
+      left = subst (AreLeftOf r n) (sym c.left.ensures) own.left;
+      room = c.in_ok-put.ensures.room;
+      own = own_agree keys c.put.new.self (λ o. (behind o ++ own_edge r o n) ++ []) (λ o. own_of r o (drop i numbers))
           (λ o. append-nil (behind o ++ own_edge r o n) ∙ own_split r o numbers i c.requires.index)
-          (c.in_ok-put-2.ensures.put behind (λ o. []) (λ o. refl)
+          (c.in_ok-put.ensures.put behind (λ o. []) (λ o. refl)
           (own_agree keys c.args.own.now behind (λ o. behind o ++ []) (λ o. sym (append-nil (behind o))) c.requires.own));
     }

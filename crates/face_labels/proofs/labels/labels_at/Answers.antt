@@ -76,8 +76,7 @@ loop-index-preserved c =
       line = λ d less. record {
         status = next_status r stops c.requires.stops d i line.numbers.items sound less
             (subst (λ (q : Point). IsPassed r q line.numbers.items) (at d) past.line.passed);
-        known = past.line.known;
-        all = past.line.all;
+        lefts = past.line.lefts;
         room = past.line.room;
         own = past.line.own;
       };

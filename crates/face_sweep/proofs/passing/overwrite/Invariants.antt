@@ -3,5 +3,5 @@ use Rattle.face_sweep.proofs.passing.overwrite.Given as goal
 
 -- the others up to this one are there
 abbrev pub invariant-loop-index : goal.invariant-loop-index
-invariant-loop-index l = l.numbers.items
-    ≡ (take l.fn.from l.fn.numbers.items ++ take l.index l.fn.others) ++ drop (l.fn.from + l.index) l.fn.numbers.items
+invariant-loop-index g l = l.list.items
+    ≡ (take l.fn.from l.fn.list.items ++ take l.index l.fn.others) ++ drop (l.fn.from + l.index) l.fn.list.items

@@ -3,5 +3,5 @@ use Rattle.face_sweep.proofs.passing.put_in.Given as goal
 
 -- the others up to this one are there
 abbrev pub invariant-loop-index : goal.invariant-loop-index
-invariant-loop-index l = l.numbers.items
-    ≡ (take l.fn.at l.fn.numbers.items ++ take l.index l.fn.others) ++ drop l.fn.at l.fn.numbers.items
+invariant-loop-index g l = l.list.items
+    ≡ (take l.fn.at l.fn.list.items ++ take l.index l.fn.others) ++ drop l.fn.at l.fn.list.items

@@ -3,4 +3,4 @@ use Rattle.face_sweep.proofs.passing.take_out.Given as goal
 
 -- the elements from `from` up to this one are gone
 abbrev pub invariant-loop : goal.invariant-loop
-invariant-loop l = l.numbers.items ≡ take l.fn.from l.fn.numbers.items ++ drop l.counter l.fn.numbers.items
+invariant-loop g l = l.list.items ≡ take l.fn.from l.fn.list.items ++ drop l.counter l.fn.list.items

@@ -1,18 +1,42 @@
 -- Above a level edge holds what the edges right of the point tell, of which none has begun there yet.
-use Rattle.std.proofs.Common.{◌≡◌, ◌-◌, ◌<◌, ◌++◌, drop, length, take, Contains, sym, ap, subst, ◌∙◌}
+use Rattle.std.proofs.Common.{◌≡◌, ◌-◌, ◌<◌, ◌++◌, drop, length, take, Contains, sym, ap, subst, ◌∙◌, arith}
 use Rattle.std.specs.Prelude.{All}
 use Rattle.std.proofs.lemmas.List.{take_rest}
+use Rattle.face_sweep.specs.Counts.{AreCounts}
 use Rattle.face_sweep.specs.OwnRows.{AreOwn, IsCutAt, own_of}
 use Rattle.face_sweep.specs.Points.{AreBegunAt, IsEndPoint, IsLevelFrom}
-use Rattle.face_sweep.specs.Sides.{AreBehind, IsKnown, is_odd_in}
+use Rattle.face_sweep.specs.Sides.{AreBehind, AreLefts, is_odd_in}
 use Rattle.face_sweep.proofs.OwnLemmas.{own_cut}
 use Rattle.face_sweep.proofs.PassLemmas.{AreRest, rest_beside, rest_of_status}
+use Rattle.face_sweep.proofs.StateLemmas.{lefts_drop, lefts_long}
 use Rattle.face_labels.specs.RowSides.{HasLabel, IsLineAt, IsLinePast}
-use Rattle.face_labels.proofs.LineLemmas.{all_in, begun_labels, rest_cut, rest_given}
+use Rattle.face_labels.proofs.LineLemmas.{all_in, begun_labels, rest_cut}
 use Rattle.face_labels.proofs.sweep_row.SweepRow.past.Goals as goal
 
-pub label_levels-requires-clause-behind : goal.label_levels-requires-clause-behind
-label_levels-requires-clause-behind c =
+pub slice_bounds-counts_before-count : goal.slice_bounds-counts_before-count
+slice_bounds-counts_before-count c =
+    let row = c.without-rest.result in
+    let line = c.without-rest.ensures in
+    omega (
+      arith,
+      line.group.bound,
+      ap length c.deref-2.ensures.value,
+      lefts_long c.args.edges.now row.numbers.items row.lefts.items line.lefts,
+    )
+
+pub slice_bounds-counts_before-start : goal.slice_bounds-counts_before-start
+slice_bounds-counts_before-start c =
+    let row = c.without-rest.result in
+    let line = c.without-rest.ensures in
+    omega (
+      arith,
+      line.group.bound,
+      ap length c.deref-2.ensures.value,
+      lefts_long c.args.edges.now row.numbers.items row.lefts.items line.lefts,
+    )
+
+pub counts_before-right-requires-clause-behind : goal.counts_before-right-requires-clause-behind
+counts_before-right-requires-clause-behind c =
     let r = c.args.edges.now in
     let p = c.group_at-group.result.point in
     let numbers = c.without-rest.result.numbers.items in
@@ -25,33 +49,20 @@ label_levels-requires-clause-behind c =
     let rest : AreRest r p (drop to numbers) = rest_of_status r p numbers from to c.requires.sound end line.status line.group in
     subst (AreBehind r) (sym slice_is) rest.behind
 
-pub label_levels-requires-clause-given : goal.label_levels-requires-clause-given
-label_levels-requires-clause-given c =
+pub counts_before-right-requires-clause-lefts : goal.counts_before-right-requires-clause-lefts
+counts_before-right-requires-clause-lefts c =
     let r = c.args.edges.now in
-    let p = c.group_at-group.result.point in
-    let numbers = c.without-rest.result.numbers.items in
-    let from = c.group_at-group.result.from in
     let to = c.group_at-group.result.to in
-    let line = c.without-rest.ensures in
-    let end : IsEndPoint r p = subst (IsEndPoint r) (sym c.group_at-group.ensures.point) c.requires.stop.end in
-    let slice_is : take (length c.deref.result.now - to) (drop to c.deref.result.now) ≡ drop to numbers =
-    take_rest c.deref.result.now to ∙ ap (drop to) c.deref.ensures.value in
-    let rest : AreRest r p (drop to numbers) = rest_of_status r p numbers from to c.requires.sound end line.status line.group in
-    subst (All (λ n. n < length r.0)) (sym slice_is) (rest_given r p (drop to numbers) rest)
+    let row = c.without-rest.result in
+    let numbers_is = take_rest c.deref.result.now to ∙ ap (drop to) c.deref.ensures.value in
+    let lefts_is = take_rest c.deref-2.result.now to ∙ ap (drop to) c.deref-2.ensures.value in
+    coe 1 0 (i. AreLefts r (numbers_is i) (lefts_is i)) (lefts_drop r to row.numbers.items row.lefts.items c.without-rest.ensures.lefts)
 
-pub label_levels-requires-clause-all : goal.label_levels-requires-clause-all
-label_levels-requires-clause-all c =
-    let r = c.args.edges.now in
-    let p = c.group_at-group.result.point in
-    let numbers = c.without-rest.result.numbers.items in
-    let from = c.group_at-group.result.from in
+pub with_begun-requires-clause-right : goal.with_begun-requires-clause-right
+with_begun-requires-clause-right c =
     let to = c.group_at-group.result.to in
-    let line = c.without-rest.ensures in
-    let end : IsEndPoint r p = subst (IsEndPoint r) (sym c.group_at-group.ensures.point) c.requires.stop.end in
-    let slice_is : take (length c.deref.result.now - to) (drop to c.deref.result.now) ≡ drop to numbers =
-    take_rest c.deref.result.now to ∙ ap (drop to) c.deref.ensures.value in
-    let known = c.without-rest.result.known in
-    subst (All (IsKnown known)) (sym slice_is) (all_in (IsKnown known) (drop to numbers) line.all_right)
+    subst (λ l. AreCounts c.counts_before-right.result (is_odd_in c.args.edges.now l))
+    (take_rest c.deref.result.now to ∙ ap (drop to) c.deref.ensures.value) c.counts_before-right.ensures
 
 pub label_levels-requires-clause-own : goal.label_levels-requires-clause-own
 label_levels-requires-clause-own c =

@@ -1,13 +1,15 @@
 -- Once the group is replaced, the edges from its place on are those right of the point.
 use Rattle.std.proofs.Common.{◌+◌, ◌++◌, ◌<◌, drop, get_or, length, take, sym, ap, subst, ◌∙◌, arith}
-use Rattle.std.specs.Prelude.{All}
+use Rattle.std.specs.Prelude.{All, slice_range}
+use Rattle.face_sweep.specs.Counts.{AreCounts}
 use Rattle.face_sweep.specs.OwnRows.{AreOwn, IsCutAt, own_of}
 use Rattle.face_sweep.specs.Points.{IsPassed}
-use Rattle.face_sweep.specs.Sides.{AreBehind, IsKnown}
+use Rattle.face_sweep.specs.Sides.{AreBehind, AreLefts, is_odd_in}
 use Rattle.face_sweep.proofs.PassLemmas.{rest_of_passed}
+use Rattle.face_sweep.proofs.StateLemmas.{lefts_long}
 use Rattle.face_sweep.proofs.StatusLemmas.{points_pass}
 use Rattle.face_labels.specs.RowSides.{HasLabel}
-use Rattle.face_labels.proofs.LineLemmas.{all_in, begun_cut, known_all, new_at, new_back, new_front, new_rest, passed_given}
+use Rattle.face_labels.proofs.LineLemmas.{begun_cut, lefts_replaced, new_at, new_back, new_front, new_range, new_rest, passed_given}
 use Rattle.face_labels.proofs.WrittenLemmas.{all_found}
 use Rattle.face_labels.proofs.sweep_row.SweepRow.with_begun.Goals as goal
 
@@ -16,12 +18,12 @@ find_begun-requires-clause-given c =
     let r = c.args.edges.now in
     let p = c.args.group.point in
     let old = c.args.self.numbers.items in
-    let new = c.replace.new.numbers.items in
+    let new = c.replace.new.list.items in
     let begun = c.args.begun.now in
     let from = c.args.group.from in
     let to = c.args.group.to in
     let line = c.requires.line in
-    subst (All (λ n. n < length r.0)) (sym (c.as_slice.ensures.value ∙ c.in_ok-replace.ensures))
+    subst (All (λ n. n < length r.0)) (sym (c.as_slice-row.ensures.value ∙ c.in_ok-replace.ensures))
     (passed_given r p (take from old ++ begun ++ drop to old)
     (points_pass r p old begun from to c.requires.sound c.requires.end line.status c.requires.begun line.group))
 
@@ -30,65 +32,68 @@ find_begun-requires-clause-behind c =
     let r = c.args.edges.now in
     let p = c.args.group.point in
     let old = c.args.self.numbers.items in
-    let new = c.replace.new.numbers.items in
+    let new = c.replace.new.list.items in
     let begun = c.args.begun.now in
     let from = c.args.group.from in
     let to = c.args.group.to in
     let line = c.requires.line in
-    subst (AreBehind r) (sym (ap (drop from) c.as_slice.ensures.value
+    subst (AreBehind r) (sym (ap (drop from) c.as_slice-row.ensures.value
     ∙ new_back old new begun from to line.group.order line.group.bound c.in_ok-replace.ensures))
     (rest_of_passed r p old begun from to c.requires.sound c.requires.end line.status c.requires.begun line.group).behind
 
-pub find_begun-requires-clause-all : goal.find_begun-requires-clause-all
-find_begun-requires-clause-all c =
-    let r = c.args.edges.now in
-    let p = c.args.group.point in
+pub find_begun-requires-clause-right : goal.find_begun-requires-clause-right
+find_begun-requires-clause-right c =
     let old = c.args.self.numbers.items in
-    let new = c.replace.new.numbers.items in
+    let new = c.replace.new.list.items in
     let begun = c.args.begun.now in
     let from = c.args.group.from in
     let to = c.args.group.to in
     let line = c.requires.line in
-    subst (All (IsKnown c.args.self.known)) (sym (ap (drop (from + length begun)) c.as_slice.ensures.value
-    ∙ new_rest old new begun from to line.group.order line.group.bound c.in_ok-replace.ensures))
-    (all_in (IsKnown c.args.self.known) (drop to old) line.all_right)
+    subst (λ l. AreCounts c.args.right (is_odd_in c.args.edges.now l)) (sym (ap (drop (from + length begun)) c.as_slice-row.ensures.value
+    ∙ new_rest old new begun from to line.group.order line.group.bound c.in_ok-replace.ensures)) c.requires.right
 
 pub find_begun-requires-clause-cut : goal.find_begun-requires-clause-cut
 find_begun-requires-clause-cut c =
     let r = c.args.edges.now in
     let p = c.args.group.point in
     let old = c.args.self.numbers.items in
-    let new = c.replace.new.numbers.items in
+    let new = c.replace.new.list.items in
     let begun = c.args.begun.now in
     let from = c.args.group.from in
     let to = c.args.group.to in
     let line = c.requires.line in
-    let back = ap (drop from) c.as_slice.ensures.value
+    let back = ap (drop from) c.as_slice-row.ensures.value
     ∙ new_back old new begun from to line.group.order line.group.bound c.in_ok-replace.ensures in
-    let front = ap (take from) c.as_slice.ensures.value
+    let front = ap (take from) c.as_slice-row.ensures.value
     ∙ new_front old new begun from to line.group.order line.group.bound c.in_ok-replace.ensures in
     coe 1 0 (i. IsCutAt r p (back i) (front i)) (begun_cut r p old from to c.requires.sound line.group begun c.requires.begun)
+
+pub replace-requires-2-clause-bound : goal.replace-requires-2-clause-bound
+replace-requires-2-clause-bound c =
+    let line = c.requires.line in
+    omega (arith, line.group.bound, lefts_long c.args.edges.now c.args.self.numbers.items c.args.self.lefts.items line.lefts)
 
 pub returns-clause-line : goal.returns-clause-line
 returns-clause-line c =
     let r = c.args.edges.now in
     let p = c.args.group.point in
     let old = c.args.self.numbers.items in
-    let new = c.replace.new.numbers.items in
+    let new = c.replace.new.list.items in
     let begun = c.args.begun.now in
     let from = c.args.group.from in
     let to = c.args.group.to in
     let line = c.requires.line in
-    let last = c.find_begun.new.known in
-    let slice = c.as_slice.ensures.value in
+    let slice = c.as_slice-row.ensures.value in
     record {
       passed = subst (IsPassed r p) (sym c.in_ok-replace.ensures)
           (points_pass r p old begun from to c.requires.sound c.requires.end line.status c.requires.begun line.group);
-      known = c.in_ok-find_begun.ensures.known;
-      all = known_all old new begun from to c.args.self.known last c.in_ok-replace.ensures line.all_left
-          c.in_ok-find_begun.ensures.kept
-          (subst (All (IsKnown last)) (ap (drop from) slice
-          ∙ new_back old new begun from to line.group.order line.group.bound c.in_ok-replace.ensures) c.in_ok-find_begun.ensures.all);
+      lefts = lefts_replaced r old new begun c.args.self.lefts.items c.replace-2.new.list.items c.find_begun.new.lefts.items from to
+          c.in_ok-replace.ensures
+          (c.in_ok-replace-2.ensures
+          ∙ ap (λ l. take from c.args.self.lefts.items ++ l ++ drop to c.args.self.lefts.items) c.as_slice.ensures.value)
+          line.lefts
+          (subst (λ l. AreLefts r l c.find_begun.new.lefts.items) (ap (λ l. slice_range l from (from + length begun)) slice
+          ∙ new_range old new begun from to line.group.order line.group.bound c.in_ok-replace.ensures) c.in_ok-find_begun.ensures.lefts);
       room = c.in_ok-find_begun.ensures.room;
       own = subst (λ l. AreOwn c.args.reach.now.traced.items (λ o. own_of r o l) c.find_begun.new.own) slice
           c.in_ok-find_begun.ensures.own;
@@ -99,13 +104,13 @@ returns-clause-labels c =
     let r = c.args.edges.now in
     let p = c.args.group.point in
     let old = c.args.self.numbers.items in
-    let new = c.replace.new.numbers.items in
+    let new = c.replace.new.list.items in
     let begun = c.args.begun.now in
     let from = c.args.group.from in
     let to = c.args.group.to in
     let line = c.requires.line in
     let labels = c.find_begun.new.labels.items in
     all_found (HasLabel c.args.op r labels) begun (λ k less.
-    subst (HasLabel c.args.op r labels) (ap (λ l. get_or l (from + k) 0) c.as_slice.ensures.value
+    subst (HasLabel c.args.op r labels) (ap (λ l. get_or l (from + k) 0) c.as_slice-row.ensures.value
     ∙ new_at old new begun from to line.group.order line.group.bound c.in_ok-replace.ensures k less)
     (c.in_ok-find_begun.ensures.labels (from + k) (omega arith) (omega (arith, less))))

@@ -1,9 +1,8 @@
--- Only of the edges that end at the point is anything lost.
-use Rattle.std.proofs.Common.{◌++◌, ◌<◌, ℕ, drop, length, take, Contains, sym, subst}
-use Rattle.std.specs.Prelude.{All, slice_range}
+-- Only the edges that end at the point are lost from the lists.
+use Rattle.std.proofs.Common.{◌++◌, ◌<◌, drop, length, take, sym, subst}
+use Rattle.std.specs.Prelude.{All}
 use Rattle.face_sweep.specs.OwnRows.{AreOwn, IsCutAt, own_of}
-use Rattle.face_sweep.specs.Sides.{IsKnown}
-use Rattle.face_labels.proofs.LineLemmas.{all_given, group_cut, known_front, known_rest}
+use Rattle.face_labels.proofs.LineLemmas.{all_given, group_cut}
 use Rattle.face_labels.proofs.sweep_row.SweepRow.without.Goals as goal
 
 pub take_out-requires-clause-given : goal.take_out-requires-clause-given
@@ -21,18 +20,10 @@ pub returns : goal.returns
 returns c =
     let r = c.args.edges.now in
     let g = c.args.group in
-    let numbers = c.args.self.numbers.items in
-    let old = c.args.self.known in
-    let new = c.forget.new.known in
-    let kept : (n : ℕ) → (Contains (slice_range numbers g.from g.to) n → ⊥) → IsKnown old n → IsKnown new n =
-    λ n none own. c.forget.ensures.kept n
-    (λ found. none (subst (λ ns. Contains (slice_range ns g.from g.to) n) c.deref.ensures.value found)) own in
     record {
       status = c.requires.line.status;
       group = c.requires.group;
-      known = c.forget.ensures.known r c.requires.line.known;
-      all_left = known_front r g.point numbers g.from g.to c.requires.sound c.requires.group old new c.requires.line.all kept;
-      all_right = known_rest r g.point numbers g.from g.to c.requires.sound c.requires.group old new c.requires.line.all kept;
+      lefts = c.requires.line.lefts;
       room = c.take_out.ensures.room;
       own = subst (λ l. AreOwn c.args.reach.now.traced.items (λ o. own_of r o (drop g.to l) ++ own_of r o (take g.from l))
           c.take_out.new.own) c.as_slice.ensures.value c.take_out.ensures.own;
