@@ -33,7 +33,7 @@ use Rattle.face_sweep.specs.Stops.{AreStops}
 use Rattle.face_sweep.proofs.PassLemmas.{has_back, has_front}
 use Rattle.face_sweep.proofs.OwnLemmas.{own_append}
 use Rattle.face_sweep.proofs.PointLemmas.{begins_none, ends_none}
-use Rattle.face_sweep.proofs.ReplaceLemmas.{status_given}
+use Rattle.face_sweep.proofs.GroupLemmas.{status_given}
 use Rattle.face_sweep.proofs.StateLemmas.{lefts_drop, lefts_joined, lefts_take, split_at}
 use Rattle.face_sweep.proofs.SweepLemmas.{is_end}
 use Rattle.face_labels.specs.RowSides.{AreSplit, HasLabel, IsSweepStop}

@@ -41,26 +41,26 @@ pub record AreSplit (r : Owned) (p : Point) (numbers : List ℕ) (index : ℕ) :
 
 -- the edges at the point, with what is kept beside them, and those that single shapes own
 pub record IsLineAt (r : Owned) (reach : Reach) (p : Point) (line : SweepRow) : Type 0 where
-  pub status : IsStatus r p line.numbers.items
-  pub lefts : AreLefts r line.numbers.items line.lefts.items
+  pub status : IsStatus r p line.numbers
+  pub lefts : AreLefts r line.numbers line.lefts
   pub room : HaveLists r (keys_of reach) line.own
-  pub own : AreOwn (keys_of reach) (λ o. own_of r o line.numbers.items) line.own
+  pub own : AreOwn (keys_of reach) (λ o. own_of r o line.numbers) line.own
 
 -- the same, but the edges of the group, which end at its point, are in no list
 pub record IsLineWithout (r : Owned) (reach : Reach) (gone : Group) (line : SweepRow) : Type 0 where
-  pub status : IsStatus r gone.point line.numbers.items
-  pub group : IsEndedGroup r gone.point line.numbers.items gone.from gone.to
-  pub lefts : AreLefts r line.numbers.items line.lefts.items
+  pub status : IsStatus r gone.point line.numbers
+  pub group : IsEndedGroup r gone.point line.numbers gone.from gone.to
+  pub lefts : AreLefts r line.numbers line.lefts
   pub room : HaveLists r (keys_of reach) line.own
   pub own : AreOwn (keys_of reach)
-      (λ o. own_of r o (drop gone.to line.numbers.items) ++ own_of r o (take gone.from line.numbers.items)) line.own
+      (λ o. own_of r o (drop gone.to line.numbers) ++ own_of r o (take gone.from line.numbers)) line.own
 
 -- the same as at a point once it is passed
 pub record IsLinePast (r : Owned) (reach : Reach) (p : Point) (line : SweepRow) : Type 0 where
-  pub passed : IsPassed r p line.numbers.items
-  pub lefts : AreLefts r line.numbers.items line.lefts.items
+  pub passed : IsPassed r p line.numbers
+  pub lefts : AreLefts r line.numbers line.lefts
   pub room : HaveLists r (keys_of reach) line.own
-  pub own : AreOwn (keys_of reach) (λ o. own_of r o line.numbers.items) line.own
+  pub own : AreOwn (keys_of reach) (λ o. own_of r o line.numbers) line.own
 
 -- at the edge's number is its label
 abbrev pub HasLabel : Op → Owned → List Bool → ℕ → Type 0

@@ -3,6 +3,7 @@ ghost use Rattle.std.specs.Prelude.{
   ◌≡◌,
   ◌+◌,
   ◌++◌,
+  ◌^◌,
   ◌<◌,
   ◌≤◌,
   ℕ,
@@ -33,7 +34,7 @@ ghost use Rattle.face_labels.specs.RowSides.{AreSplit, HasLabel};
 
 use crate::group::Group;
 use face_rows::{Op, upward};
-use face_sweep::{Counts, LeftCounts, OwnRows, Reach, Sides};
+use face_sweep::{BlockList, Counts, LeftCounts, OwnRows, Reach, Sides};
 use lay_point::Point;
 use snap_chains::CleanEdges;
 use std::alloc::AllocError;
@@ -60,11 +61,12 @@ fn rises_above(edges: &CleanEdges, number: usize, point: Point) -> bool
     point.y < high.y
 }
 
-/// Writes the labels of level edges that begin at the point. Above them holds what these edges tell, which are all
-/// that are right of it. The lists of single shapes have none that ends there.
+/// Writes the labels of level edges that begin at the point. Above them holds what the row's edges from the place `next`
+/// on tell, which are all that are right of it. The lists of single shapes have none that ends there.
 pub(crate) fn label_levels(
     edges: &CleanEdges,
-    behind: &[usize],
+    row: &BlockList<usize>,
+    next: usize,
     levels: &[usize],
     point: Point,
     right: Counts,
@@ -74,13 +76,13 @@ pub(crate) fn label_levels(
     labels: &mut Vec<bool>,
 )
     requires sound { AreSound edges.now }
-    requires right { AreCounts right (is_odd_in edges.now behind.now) }
+    requires right { AreCounts right (is_odd_in edges.now (drop next row.now)) }
     requires reach { IsReach edges.now reach.now }
     requires room { HaveLists edges.now (keys_of reach.now) own.now }
-    requires own { AreRight edges.now (keys_of reach.now) (Some point) behind.now own.now }
+    requires own { AreRight edges.now (keys_of reach.now) (Some point) (drop next row.now) own.now }
     requires levels { All (λ n. n < length edges.now.0) levels.now }
     requires beside { (n : ℕ) (o : Owner) → Contains levels.now n
-        → is_odd_in edges.now behind.now o ≡ holds_beside edges.now n o }
+        → is_odd_in edges.now (drop next row.now) o ≡ holds_beside edges.now n o }
     requires count { length labels.old.items ≡ length edges.now.0 }
     ensures count { length labels.new.items ≡ length edges.now.0 }
     ensures kept { (n : ℕ) → HasLabel op edges.now labels.old.items n → HasLabel op edges.now labels.new.items n }
@@ -88,16 +90,17 @@ pub(crate) fn label_levels(
 {
     for index in 0..levels.len() {
         let number = levels[index];
-        let label = level_label(edges, behind, point, right, own, reach, number, op);
+        let label = level_label(edges, row, next, point, right, own, reach, number, op);
         labels[number] = label;
     }
 }
 
-/// Returns whether the operation's answers differ above and below a level edge, above which holds what these
-/// edges tell.
+/// Returns whether the operation's answers differ above and below a level edge, above which holds what the row's
+/// edges from the place `next` on tell.
 fn level_label(
     edges: &CleanEdges,
-    behind: &[usize],
+    row: &BlockList<usize>,
+    next: usize,
     point: Point,
     right: Counts,
     own: &OwnRows,
@@ -106,15 +109,15 @@ fn level_label(
     op: Op,
 ) -> bool
     requires sound { AreSound edges.now }
-    requires right { AreCounts right (is_odd_in edges.now behind.now) }
+    requires right { AreCounts right (is_odd_in edges.now (drop next row.now)) }
     requires reach { IsReach edges.now reach.now }
     requires room { HaveLists edges.now (keys_of reach.now) own.now }
-    requires own { AreRight edges.now (keys_of reach.now) (Some point) behind.now own.now }
+    requires own { AreRight edges.now (keys_of reach.now) (Some point) (drop next row.now) own.now }
     requires number { number < length edges.now.0 }
-    requires beside { (o : Owner) → is_odd_in edges.now behind.now o ≡ holds_beside edges.now number o }
+    requires beside { (o : Owner) → is_odd_in edges.now (drop next row.now) o ≡ holds_beside edges.now number o }
     ensures { result ≡ differs (answer op) (owned_items edges.now) (owned_item_at edges.now number) }
 {
-    let sides = Sides::of(edges, behind, right, reach, own, Some(point), number);
+    let sides = Sides::of(edges, row, next, right, reach, own, Some(point), number);
     sides.differs(op)
 }
 
@@ -127,7 +130,7 @@ fn level_label(
 /// `AllocError`, if an allocation fails, and where 2^32 shapes of an input hold.
 pub(crate) fn find_begun(
     edges: &CleanEdges,
-    numbers: &[usize],
+    numbers: &BlockList<usize>,
     group: Group,
     right: Counts,
     own: &mut OwnRows,
@@ -188,7 +191,7 @@ pub(crate) fn find_begun(
 /// `AllocError`, if an allocation fails.
 fn find_labelled(
     edges: &CleanEdges,
-    numbers: &[usize],
+    numbers: &BlockList<usize>,
     index: usize,
     point: Point,
     right: Counts,
@@ -200,6 +203,7 @@ fn find_labelled(
     requires sound { AreSound edges.now }
     requires reach { IsReach edges.now reach.now }
     requires index { index < length numbers.now }
+    requires few { index + 1 < 2 ^ 64 }
     requires given { All (λ n. n < length edges.now.0) numbers.now }
     requires beside { (o : Owner) → is_odd_in edges.now (drop (index + 1) numbers.now) o
         ≡ holds_beside edges.now (slice_index numbers.now index) o }
@@ -216,9 +220,17 @@ fn find_labelled(
         → HasLabel op edges.now labels.new.items n) }
     ensures label { OnOk result (HasLabel op edges.now labels.new.items (slice_index numbers.now index)) }
 {
-    let number = numbers[index];
-    let behind = &numbers[index + 1..];
-    let sides = Sides::of(edges, behind, right, reach, own, Some(point), number);
+    let number = numbers.get(index);
+    let sides = Sides::of(
+        edges,
+        numbers,
+        index + 1,
+        right,
+        reach,
+        own,
+        Some(point),
+        number,
+    );
     labels[number] = sides.differs(op);
     own.put(edges, reach, number, Some(point))?;
     Ok(sides.left())

@@ -3,6 +3,7 @@ ghost use Rattle.std.specs.Prelude.{
   ◌≡◌,
   ◌+◌,
   ◌++◌,
+  ◌^◌,
   ◌<◌,
   ◌≤◌,
   [],
@@ -22,7 +23,7 @@ ghost use Rattle.face_sweep.specs.Counts.{AreCounts};
 ghost use Rattle.face_sweep.specs.Sides.{AreBehind, AreLeftOf, AreLefts, holds_beside, is_odd_in};
 
 use crate::group::Group;
-use face_sweep::{Counts, LeftCounts, OwnRows, Reach, Sides};
+use face_sweep::{BlockList, Counts, LeftCounts, OwnRows, Reach, Sides};
 use snap_chains::CleanEdges;
 use std::alloc::{AllocError, Global};
 
@@ -34,7 +35,7 @@ use std::alloc::{AllocError, Global};
 pub(crate) fn find_lefts(
     alloc: Global,
     edges: &CleanEdges,
-    numbers: &[usize],
+    numbers: &BlockList<usize>,
     own: &mut OwnRows,
     reach: &Reach,
 ) -> Result<Vec<LeftCounts>, AllocError>
@@ -65,7 +66,7 @@ pub(crate) fn find_lefts(
 /// lists of single shapes. The edges behind it are in the lists.
 fn find_one(
     edges: &CleanEdges,
-    numbers: &[usize],
+    numbers: &BlockList<usize>,
     index: usize,
     right: Counts,
     own: &mut OwnRows,
@@ -74,6 +75,7 @@ fn find_one(
     requires sound { AreSound edges.now }
     requires reach { IsReach edges.now reach.now }
     requires index { index < length numbers.now }
+    requires few { index + 1 < 2 ^ 64 }
     requires given { All (λ n. n < length edges.now.0) numbers.now }
     requires beside { (o : Owner) → is_odd_in edges.now (drop (index + 1) numbers.now) o
         ≡ holds_beside edges.now (slice_index numbers.now index) o }
@@ -84,9 +86,8 @@ fn find_one(
     ensures room { OnOk result (HaveLists edges.now (keys_of reach.now) own.new) }
     ensures own { OnOk result (AreOwn (keys_of reach.now) (λ o. own_of edges.now o (drop index numbers.now)) own.new) }
 {
-    let number = numbers[index];
-    let behind = &numbers[index + 1..];
-    let sides = Sides::of(edges, behind, right, reach, own, None, number);
+    let number = numbers.get(index);
+    let sides = Sides::of(edges, numbers, index + 1, right, reach, own, None, number);
     own.put(edges, reach, number, None)?;
     Ok(sides.left())
 }
@@ -94,7 +95,7 @@ fn find_one(
 /// Takes the edges of the group, which end at its point, out of the lists of single shapes.
 pub(crate) fn take_out(
     edges: &CleanEdges,
-    numbers: &[usize],
+    numbers: &BlockList<usize>,
     group: Group,
     own: &mut OwnRows,
     reach: &Reach,
@@ -111,6 +112,6 @@ pub(crate) fn take_out(
         (λ o. own_of edges.now o (drop group.to numbers.now) ++ own_of edges.now o (take group.from numbers.now)) own.new }
 {
     for index in group.from..group.to {
-        own.take_out(edges, reach, numbers[index], group.point);
+        own.take_out(edges, reach, numbers.get(index), group.point);
     }
 }

@@ -31,7 +31,8 @@ use std::alloc::{AllocError, Global};
 ///
 /// A sort of where all edges begin, and for each point of the band at which edges begin or end a search among the
 /// edges of its row, which is short where the point before is near. Where more edges begin at a point than end
-/// there, or fewer, the edges right of it are moved. For each owner of an edge that begins or ends, if some edge of
+/// there, or fewer, those of a block of the row's edges are moved; to come to that block costs a step for each block
+/// between it and the one before. For each owner of an edge that begins or ends, if some edge of
 /// that shape isn't on the border of its box, a search among the edges of the row that the shape owns, and those
 /// left of the point are moved.
 pub fn label(
@@ -121,7 +122,7 @@ fn labels_at(
         if !is_below(stop, band.high) {
             return Ok(labels);
         }
-        line = line.past(alloc, edges, shared, stop, op, &mut labels)?;
+        line.pass(alloc, edges, shared, stop, op, &mut labels)?;
     }
     Ok(labels)
 }

@@ -30,20 +30,20 @@ use crate::group::Group;
 use crate::shared::Shared;
 use face_rows::{Op, row_edges};
 use face_sweep::{
-    Counts, LeftCounts, OwnRows, Reach, Stop, Stops, counts_before, group_end, place_of_point,
-    replace,
+    BlockList, Counts, LeftCounts, OwnRows, Reach, Stop, Stops, counts_before, group_end,
+    place_of_point,
 };
 use lay_point::{NoMemory, Point};
 use snap_chains::CleanEdges;
-use std::alloc::Global;
+use std::alloc::{AllocError, Global};
 
 /// The edges of the sweep at a stop, from left to right. What holds on the sides of an edge is the same all along
 /// it, so it is found once, where the edge comes in.
 #[derive(Debug, Drop)]
 pub(crate) struct SweepRow {
-    pub numbers: Vec<usize>,
+    pub numbers: BlockList<usize>,
     /// How many shapes hold left of each of them.
-    pub lefts: Vec<LeftCounts>,
+    pub lefts: BlockList<LeftCounts>,
     /// Which of them single shapes own.
     pub own: OwnRows,
     /// Where among them the stop before this one was.
@@ -72,38 +72,38 @@ impl SweepRow {
         ensures { IfOk result (λ line. (d : Stop)
             → IsLineAt edges.now shared.now.reach (slice_index_or shared.now.stops.list.items index d).point line) }
     {
-        let numbers = edges_below(alloc, edges, &shared.stops, index)?;
+        let numbers = BlockList::of(alloc, edges_below(alloc, edges, &shared.stops, index)?);
         let mut own = OwnRows::new(alloc, &shared.reach)?;
-        let lefts = find_lefts(alloc, edges, numbers.as_slice(), &mut own, &shared.reach)?;
+        let lefts = find_lefts(alloc, edges, &numbers, &mut own, &shared.reach)?;
         Ok(SweepRow {
             numbers,
-            lefts,
+            lefts: BlockList::of(alloc, lefts),
             own,
             place: 0,
             begun_lefts: Vec::new(alloc),
         })
     }
 
-    /// Returns the row once the stop is passed, and writes the labels of the edges that begin there.
+    /// Passes the stop, and writes the labels of the edges that begin there.
     ///
     /// # Errors
     ///
     /// `NoMemory`, if an allocation fails.
-    pub fn past(
-        self,
+    pub fn pass(
+        &mut self,
         alloc: Global,
         edges: &CleanEdges,
         shared: &Shared,
         stop: Stop,
         op: Op,
         labels: &mut Vec<bool>,
-    ) -> Result<SweepRow, NoMemory>
+    ) -> Result<(), NoMemory>
         requires sound { AreSound edges.now }
         requires shared { IsShared edges.now shared.now }
         requires stop { IsSweepStop edges.now shared.now.stops stop }
-        requires line { IsLineAt edges.now shared.now.reach stop.point self }
+        requires line { IsLineAt edges.now shared.now.reach stop.point self.old }
         requires count { length labels.old.items ≡ length edges.now.0 }
-        ensures line { IfOk result (IsLinePast edges.now shared.now.reach stop.point) }
+        ensures line { OnOk result (IsLinePast edges.now shared.now.reach stop.point self.new) }
         ensures count { length labels.new.items ≡ length edges.now.0 }
         ensures kept { OnOk result ((n : ℕ) → HasLabel op edges.now labels.old.items n
             → HasLabel op edges.now labels.new.items n) }
@@ -114,21 +114,21 @@ impl SweepRow {
         let rising = rising_count(edges, stop.point, begun);
         let group = self.group_at(edges, stop.point);
         let reach = &shared.reach;
-        let rest = self.without(edges, reach, group);
-        let behind = &rest.numbers[group.to..];
-        let right = counts_before(edges, behind, &rest.lefts[group.to..]);
+        self.take_out(edges, reach, group);
+        let right = counts_before(edges, &self.numbers, &self.lefts, group.to);
         label_levels(
             edges,
-            behind,
+            &self.numbers,
+            group.to,
             &begun[rising..],
             group.point,
             right,
-            &rest.own,
+            &self.own,
             reach,
             op,
             labels,
         );
-        let line = rest.with_begun(
+        self.put_begun(
             alloc,
             edges,
             reach,
@@ -138,52 +138,44 @@ impl SweepRow {
             op,
             labels,
         )?;
-        Ok(line)
+        Ok(())
     }
 
     /// Returns where the edges stand that end at the point.
     fn group_at(&self, edges: &CleanEdges, point: Point) -> Group
         requires sound { AreSound edges.now }
         requires end { IsEndPoint edges.now point }
-        requires status { IsStatus edges.now point self.now.numbers.items }
+        requires status { IsStatus edges.now point self.now.numbers }
         ensures point { result.point ≡ point }
-        ensures group { IsEndedGroup edges.now point self.now.numbers.items result.from result.to }
+        ensures group { IsEndedGroup edges.now point self.now.numbers result.from result.to }
     {
         // The next stop is mostly at the edge left of the one before.
         let near = self.place.saturating_sub(1);
-        let from = place_of_point(edges, self.numbers.as_slice(), point, near);
-        let to = group_end(edges, self.numbers.as_slice(), point, from);
+        let from = place_of_point(edges, &self.numbers, point, near);
+        let to = group_end(edges, &self.numbers, point, from);
         Group { point, from, to }
     }
 
-    /// Returns the row with the group's edges, which end at its point, out of the lists of single shapes. Their numbers
-    /// stay.
-    fn without(self, edges: &CleanEdges, reach: &Reach, group: Group) -> SweepRow
+    /// Takes the group's edges, which end at its point, out of the lists of single shapes. Their numbers stay.
+    fn take_out(&mut self, edges: &CleanEdges, reach: &Reach, group: Group)
         requires sound { AreSound edges.now }
         requires reach { IsReach edges.now reach.now }
-        requires line { IsLineAt edges.now reach.now group.point self }
-        requires group { IsEndedGroup edges.now group.point self.numbers.items group.from group.to }
-        ensures { IsLineWithout edges.now reach.now group result }
+        requires line { IsLineAt edges.now reach.now group.point self.old }
+        requires group { IsEndedGroup edges.now group.point self.old.numbers group.from group.to }
+        ensures { IsLineWithout edges.now reach.now group self.new }
     {
-        let mut own = self.own;
-        take_out(edges, self.numbers.as_slice(), group, &mut own, reach);
-        SweepRow {
-            numbers: self.numbers,
-            lefts: self.lefts,
-            own,
-            place: group.from,
-            begun_lefts: self.begun_lefts,
-        }
+        take_out(edges, &self.numbers, group, &mut self.own, reach);
+        self.place = group.from;
     }
 
-    /// Returns the row with the edges of the group replaced by those that rise from its point, and writes the
-    /// labels of these. So many shapes hold right of the group.
+    /// Replaces the edges of the group by those that rise from its point, and writes the labels of these. So many shapes
+    /// hold right of the group.
     ///
     /// # Errors
     ///
     /// `NoMemory`, if an allocation fails.
-    fn with_begun(
-        self,
+    fn put_begun(
+        &mut self,
         alloc: Global,
         edges: &CleanEdges,
         reach: &Reach,
@@ -192,42 +184,41 @@ impl SweepRow {
         right: Counts,
         op: Op,
         labels: &mut Vec<bool>,
-    ) -> Result<SweepRow, NoMemory>
+    ) -> Result<(), NoMemory>
         requires sound { AreSound edges.now }
         requires reach { IsReach edges.now reach.now }
-        requires right { AreCounts right (is_odd_in edges.now (drop group.to self.numbers.items)) }
+        requires right { AreCounts right (is_odd_in edges.now (drop group.to self.old.numbers)) }
         requires end { IsEndPoint edges.now group.point }
-        requires line { IsLineWithout edges.now reach.now group self }
+        requires line { IsLineWithout edges.now reach.now group self.old }
         requires begun { AreBegunAt edges.now group.point begun.now }
         requires count { length labels.old.items ≡ length edges.now.0 }
-        ensures line { IfOk result (IsLinePast edges.now reach.now group.point) }
+        ensures line { OnOk result (IsLinePast edges.now reach.now group.point self.new) }
         ensures count { length labels.new.items ≡ length edges.now.0 }
         ensures kept { OnOk result ((n : ℕ) → HasLabel op edges.now labels.old.items n
             → HasLabel op edges.now labels.new.items n) }
         ensures labels { OnOk result (All (HasLabel op edges.now labels.new.items) begun.now) }
     {
-        let mut numbers = self.numbers;
-        let mut lefts = self.lefts;
-        let mut own = self.own;
-        let mut found = self.begun_lefts;
-        replace(alloc, &mut numbers, group.from, group.to, begun)?;
+        self.numbers.replace(alloc, group.from, group.to, begun)?;
         let risers = Group {
             point: group.point,
             from: group.from,
-            to: group.from + begun.len(),
+            to: group.from.checked_add(begun.len()).ok_or(AllocError)?,
         };
-        let row = numbers.as_slice();
         find_begun(
-            edges, row, risers, right, &mut own, reach, op, labels, &mut found,
+            edges,
+            &self.numbers,
+            risers,
+            right,
+            &mut self.own,
+            reach,
+            op,
+            labels,
+            &mut self.begun_lefts,
         )?;
-        replace(alloc, &mut lefts, group.from, group.to, found.as_slice())?;
-        Ok(SweepRow {
-            numbers,
-            lefts,
-            own,
-            place: group.from,
-            begun_lefts: found,
-        })
+        self.lefts
+            .replace(alloc, group.from, group.to, self.begun_lefts.as_slice())?;
+        self.place = group.from;
+        Ok(())
     }
 }
 

@@ -1,7 +1,9 @@
 pub mod BehindLemmas
+pub mod BlockLemmas
 pub mod BoxLemmas
 pub mod CountLemmas
 pub mod EndLemmas
+pub mod GroupLemmas
 pub mod LabelLemmas
 pub mod LevelLemmas
 pub mod NextLemmas

@@ -19,7 +19,9 @@
 //!   (`specs/Ends.antt`), in threads if the caller has a runtime.
 //! - [`place_of_point`] searches the list for a point, from a hint on: left of the place of the stop before, which is
 //!   near in a row. It compares two products for each edge that it looks at. [`group_end`] is where the edges
-//!   that end at the point end, and [`replace`] puts others in their place.
+//!   that end at the point end.
+//! - [`BlockList`] keeps the list in blocks (`specs/Blocks.antt`). Edges are replaced near where they were replaced
+//!   last, so a block or two are moved and not all edges to the right: rows of thousands of edges cost no more.
 //! - [`Sides`] has how many shapes of each input hold on each side of an edge (`specs/Counts.antt`,
 //!   `specs/Sides.antt`). Right of an edge holds what holds left of the next; left of it the owners of the edge
 //!   are turned. Above a level edge holds what the edges right of its left end tell.
@@ -46,10 +48,13 @@
 //! - `stops.rt`: the points of the sweep; `ends.rt`: the ends of edges in its order.
 //! - `place.rt`, `side.rt`: where a point is among the edges of the list.
 //! - `passing.rt`: how the list passes a point; `laws.rt`: why it is then that of the next.
+//! - `block_list.rt`, `blocks.rt`, `replacing.rt`: the list in blocks.
 //! - `sides.rt`, `counts.rt`: what holds beside an edge.
 //! - `reach.rt`, `boxes.rt`, `extent.rt`, `traced.rt`, `turns.rt`, `own_rows.rt`: whether one shape holds beside an edge.
 #![tactic(auto)]
 
+mod block_list;
+mod blocks;
 mod boxes;
 mod counts;
 mod ends;
@@ -59,16 +64,18 @@ mod own_rows;
 mod passing;
 mod place;
 mod reach;
+mod replacing;
 mod side;
 mod sides;
 mod stops;
 mod traced;
 mod turns;
 
+pub use block_list::BlockList;
 pub use counts::{Counts, LeftCounts};
 pub use laws::{nexts_tell, points_pass};
 pub use own_rows::OwnRows;
-pub use passing::{group_end, replace};
+pub use passing::group_end;
 pub use place::place_of_point;
 pub use reach::Reach;
 pub use sides::{Sides, counts_before};

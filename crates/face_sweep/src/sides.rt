@@ -1,5 +1,5 @@
 //! The shapes that hold on the two sides of an edge.
-ghost use Rattle.std.specs.Prelude.{◌≡◌, ◌<◌, true, length};
+ghost use Rattle.std.specs.Prelude.{◌≡◌, ◌<◌, true, drop, length};
 ghost use Rattle.lay_point.specs.Parity.{xor};
 ghost use Rattle.snap_chains.specs.declared.owner.Owner.{Owner};
 ghost use Rattle.snap_chains.specs.Rounded.{is_owner_listed};
@@ -17,6 +17,7 @@ ghost use Rattle.face_sweep.specs.Sides.{
   is_odd_in,
 };
 
+use crate::block_list::BlockList;
 use crate::counts::{Counts, LeftCounts};
 use crate::extent::told_by;
 use crate::own_rows::OwnRows;
@@ -37,7 +38,7 @@ pub struct Sides {
 
 impl Sides {
     /// Returns the sides of the edge of this number, right of which so many shapes hold. Right of it in its row are the
-    /// edges `behind`. Of the lists of single shapes these have the edges that aren't left of the point, or all if there
+    /// edges from the place `next` on. Of the lists of single shapes these have the edges that aren't left of the point, or all if there
     /// is no point.
     ///
     /// # Cost
@@ -46,7 +47,8 @@ impl Sides {
     /// row are searched for the point.
     pub fn of(
         edges: &CleanEdges,
-        behind: &[usize],
+        row: &BlockList<usize>,
+        next: usize,
         right: Counts,
         reach: &Reach,
         own: &OwnRows,
@@ -55,14 +57,14 @@ impl Sides {
     ) -> Sides
         requires sound { AreSound edges.now }
         requires number { number < length edges.now.0 }
-        requires right { AreCounts right (is_odd_in edges.now behind.now) }
+        requires right { AreCounts right (is_odd_in edges.now (drop next row.now)) }
         requires reach { IsReach edges.now reach.now }
         requires room { HaveLists edges.now (keys_of reach.now) own.now }
-        requires own { AreRight edges.now (keys_of reach.now) point behind.now own.now }
-        requires beside { (o : Owner) → is_odd_in edges.now behind.now o ≡ holds_beside edges.now number o }
-        ensures { AreSidesOf (owners_at edges.now number) (is_odd_in edges.now behind.now) result }
+        requires own { AreRight edges.now (keys_of reach.now) point (drop next row.now) own.now }
+        requires beside { (o : Owner) → is_odd_in edges.now (drop next row.now) o ≡ holds_beside edges.now number o }
+        ensures { AreSidesOf (owners_at edges.now number) (is_odd_in edges.now (drop next row.now)) result }
     {
-        let left = left_counts(edges, behind, reach, own, point, number, right);
+        let left = left_counts(edges, row, next, reach, own, point, number, right);
         Sides { right, left }
     }
 
@@ -81,23 +83,30 @@ impl Sides {
     }
 }
 
-/// Returns how many shapes hold left of these edges of a row, which are all from some place on: left of the first, of
-/// which the row keeps it, or right of all if there are none.
-pub fn counts_before(_edges: &CleanEdges, _behind: &[usize], lefts: &[LeftCounts]) -> Counts
-    requires behind { AreBehind _edges.now _behind.now }
-    requires lefts { AreLefts _edges.now _behind.now lefts.now }
-    ensures { AreCounts result (is_odd_in _edges.now _behind.now) }
+/// Returns how many shapes hold before the place `next` of a row: left of the edge there, beside which the row keeps it, or
+/// right of all edges.
+pub fn counts_before(
+    _edges: &CleanEdges,
+    _row: &BlockList<usize>,
+    lefts: &BlockList<LeftCounts>,
+    next: usize,
+) -> Counts
+    requires behind { AreBehind _edges.now (drop next _row.now) }
+    requires lefts { AreLefts _edges.now (drop next _row.now) (drop next lefts.now) }
+    ensures { AreCounts result (is_odd_in _edges.now (drop next _row.now)) }
 {
-    if lefts.is_empty() {
-        return Counts::none();
+    if next < lefts.len() {
+        lefts.get(next).counts()
+    } else {
+        Counts::none()
     }
-    lefts[0].counts()
 }
 
 /// Returns how many shapes hold left of the edge of this number, right of which these do.
 fn left_counts(
     edges: &CleanEdges,
-    _behind: &[usize],
+    _row: &BlockList<usize>,
+    _next: usize,
     reach: &Reach,
     own: &OwnRows,
     point: Option<Point>,
@@ -108,10 +117,10 @@ fn left_counts(
     requires number { number < length edges.now.0 }
     requires reach { IsReach edges.now reach.now }
     requires room { HaveLists edges.now (keys_of reach.now) own.now }
-    requires own { AreRight edges.now (keys_of reach.now) point _behind.now own.now }
-    requires beside { (o : Owner) → is_odd_in edges.now _behind.now o ≡ holds_beside edges.now number o }
-    requires right { AreCounts right (is_odd_in edges.now _behind.now) }
-    ensures { AreCounts result (λ o. xor (is_owner_listed o (owners_at edges.now number)) (is_odd_in edges.now _behind.now o)) }
+    requires own { AreRight edges.now (keys_of reach.now) point (drop _next _row.now) own.now }
+    requires beside { (o : Owner) → is_odd_in edges.now (drop _next _row.now) o ≡ holds_beside edges.now number o }
+    requires right { AreCounts right (is_odd_in edges.now (drop _next _row.now)) }
+    ensures { AreCounts result (λ o. xor (is_owner_listed o (owners_at edges.now number)) (is_odd_in edges.now (drop _next _row.now) o)) }
 {
     match reach.turns[number] {
         Turn::Told { input, holds } => right.turned_in(input, holds),
@@ -119,14 +128,15 @@ fn left_counts(
             let holds = own.holds_in(edges, index as usize, point);
             right.turned_in(input, holds)
         }
-        Turn::Sought => turned_by_owners(edges, _behind, reach, own, point, number, right),
+        Turn::Sought => turned_by_owners(edges, _row, _next, reach, own, point, number, right),
     }
 }
 
 /// Returns the counts once each owner of the edge of this number is turned.
 fn turned_by_owners(
     edges: &CleanEdges,
-    _behind: &[usize],
+    _row: &BlockList<usize>,
+    _next: usize,
     reach: &Reach,
     own: &OwnRows,
     point: Option<Point>,
@@ -137,10 +147,10 @@ fn turned_by_owners(
     requires number { number < length edges.now.0 }
     requires reach { IsReach edges.now reach.now }
     requires room { HaveLists edges.now (keys_of reach.now) own.now }
-    requires own { AreRight edges.now (keys_of reach.now) point _behind.now own.now }
-    requires beside { (o : Owner) → is_odd_in edges.now _behind.now o ≡ holds_beside edges.now number o }
-    requires right { AreCounts right (is_odd_in edges.now _behind.now) }
-    ensures { AreCounts result (λ o. xor (is_owner_listed o (owners_at edges.now number)) (is_odd_in edges.now _behind.now o)) }
+    requires own { AreRight edges.now (keys_of reach.now) point (drop _next _row.now) own.now }
+    requires beside { (o : Owner) → is_odd_in edges.now (drop _next _row.now) o ≡ holds_beside edges.now number o }
+    requires right { AreCounts right (is_odd_in edges.now (drop _next _row.now)) }
+    ensures { AreCounts result (λ o. xor (is_owner_listed o (owners_at edges.now number)) (is_odd_in edges.now (drop _next _row.now) o)) }
 {
     let mut left = right;
     for owner in edges.owners(number) {

@@ -1,3 +1,4 @@
+use Rattle.std.proofs.Common.{drop}
 use Rattle.face_rows.specs.Lines.{owners_at}
 use Rattle.face_sweep.specs.Sides.{holds_beside, is_odd_in}
 use Rattle.face_sweep.proofs.LabelLemmas.{label_beside}
@@ -9,6 +10,6 @@ returns c =
     let r = c.args.edges.now in
     let n = c.args.number in
     label_beside c.args.op r n c.requires.sound c.requires.number c.of-sides.result
-    (sides_agree (owners_at r n) (is_odd_in r c.args.behind.now) (holds_beside r n) c.of-sides.result c.requires.beside
+    (sides_agree (owners_at r n) (is_odd_in r (drop c.args.next c.args.row.now)) (holds_beside r n) c.of-sides.result c.requires.beside
     c.of-sides.ensures)
     c.differs.result c.differs.ensures

@@ -12,11 +12,12 @@ pub loop-index-init : goal.loop-index-init
 loop-index-init c =
     let r = c.args.edges.now in
     let numbers = c.args.numbers.now in
-    let none = sym (drop-length numbers) in
+    let all : drop c.len-index.result numbers ≡ [] = ap (λ k. drop k numbers) c.len-index.ensures ∙ drop-length numbers in
+    let none = sym all in
     record {
-      bound = omega arith;
+      bound = omega (arith, c.len-index.ensures);
       right = subst (λ l. AreCounts c.none-right.result (is_odd_in r l)) none c.none-right.ensures;
-      lefts = coe 1 0 (i. AreLefts r (drop-length numbers i) (reverse (c.in_ok-lefts.ensures.items i))) tt;
+      lefts = coe 1 0 (i. AreLefts r (all i) (reverse (c.in_ok-lefts.ensures.items i))) tt;
       room = c.requires.room;
       own = subst (λ l. AreOwn c.args.reach.now.traced.items (λ o. own_of r o l) c.args.own.now) none c.requires.own;
     }

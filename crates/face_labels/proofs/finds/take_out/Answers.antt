@@ -1,5 +1,5 @@
 -- Of the edges that are left in the lists, and aren't left of the point, that at the index is the first.
-use Rattle.std.proofs.Common.{◌≡◌, ◌+◌, ◌++◌, ◌<◌, drop, get_or, length, take, sym, ap, subst, arith}
+use Rattle.std.proofs.Common.{◌≡◌, ◌+◌, ◌++◌, ◌<◌, drop, length, take, sym, ap, subst, ◌∙◌, arith}
 use Rattle.snap_chains.specs.declared.owner.Owner.{Owner}
 use Rattle.face_sweep.specs.OwnRows.{AreOwn, IsCutAt, own_edge, own_of}
 use Rattle.face_sweep.proofs.OwnLemmas.{own_agree, own_cut}
@@ -24,18 +24,20 @@ loop-index-preserved c =
     let numbers = c.args.numbers.now in
     let from = c.args.group.from in
     let i = c.loop-index.index in
-    let n = get_or numbers i 0 in
+    let n = c.get.result in
     let less : i < length numbers = omega (arith, c.loop-index-test.true, c.requires.bound) in
     let right = λ (o : Owner). own_of r o (drop (i + 1) numbers) in
     let left = λ (o : Owner). own_of r o (take from numbers) in
+    let split : (o : Owner) → right o ++ own_edge r o n ≡ own_of r o (drop i numbers) =
+    λ o. ap (λ m. right o ++ own_edge r o m) (c.get.ensures 0) ∙ own_split r o numbers i less in
     record {
       room = c.take_out.ensures.room;
       own = c.take_out.ensures.taken right left
-          (λ o. subst (λ l. IsCutAt r p l (left o)) (sym (own_split r o numbers i less))
+          (λ o. subst (λ l. IsCutAt r p l (left o)) (sym (split o))
           (own_cut r o p (drop i numbers) (take from numbers)
           (cut_later r p numbers (take from numbers) from i c.loop-index.auto.index c.requires.cut)))
           (own_agree c.args.reach.now.traced.items c.loop-index.own (λ o. own_of r o (drop i numbers) ++ left o)
-          (λ o. (right o ++ own_edge r o n) ++ left o) (λ o. ap (λ l. l ++ left o) (sym (own_split r o numbers i less)))
+          (λ o. (right o ++ own_edge r o n) ++ left o) (λ o. ap (λ l. l ++ left o) (sym (split o)))
           c.loop-index.invariant.own);
     }
 

@@ -45,8 +45,8 @@ returns-then-not-is_below-clause-labels c =
     (lt_false (get_or c.stops-stops.result.now i origin).point.y high above))
     (λ k n from to inside given begun. c.loop-index.invariant.labels k n origin from to inside given begun)
 
-pub past-requires-clause-stop : goal.past-requires-clause-stop
-past-requires-clause-stop c =
+pub pass-requires-clause-stop : goal.pass-requires-clause-stop
+pass-requires-clause-stop c =
     let r = c.args.edges.now in
     let stops = c.args.shared.now.stops in
     let i = c.loop-index.index in
@@ -60,8 +60,8 @@ loop-index-preserved c =
     let list = stops.list.items in
     let i = c.loop-index.index in
     let here : i < length list = subst (λ l. i < length l) c.stops-stops.ensures c.loop-index-test.true in
-    let line = c.in_ok-line-2.line in
-    let past = c.in_ok-line-2.ensures in
+    let line = c.pass.new.self in
+    let past = c.in_ok-pass.ensures in
     let at : (d : Stop) → (get_or c.stops-stops.result.now i origin).point ≡ (get_or list i d).point =
     λ d. ap (λ l. (get_or l i origin).point) c.stops-stops.ensures ∙ ap (λ (s : Stop). s.point) (get_or_default list i origin d here) in
     let sound : AreSound r = record {
@@ -72,10 +72,10 @@ loop-index-preserved c =
       lesser = c.requires.lesser;
     } in
     record {
-      count = c.past.ensures.count;
+      count = c.pass.ensures.count;
       line = λ d less. record {
-        status = next_status r stops c.requires.stops d i line.numbers.items sound less
-            (subst (λ (q : Point). IsPassed r q line.numbers.items) (at d) past.line.passed);
+        status = next_status r stops c.requires.stops d i line.numbers sound less
+            (subst (λ (q : Point). IsPassed r q line.numbers) (at d) past.line.passed);
         lefts = past.line.lefts;
         room = past.line.room;
         own = past.line.own;

@@ -1,29 +1,35 @@
 -- The row keeps what holds before its edges; where there are none nothing holds.
-use Rattle.std.proofs.Common.{◌≡◌, ◌==◌, ◌<◌, true, false, List, [], ◌∷◌, length, refl, sym, subst, ◌∙◌, arith}
-use Rattle.std.proofs.lemmas.Bool.Decides.{Decides-eqb}
-use Rattle.face_sweep.specs.Counts.{AreCounts}
+use Rattle.std.proofs.Common.{◌≡◌, ◌+◌, ◌<◌, List, [], ◌∷◌, drop, get_or, length, refl, sym, ap, subst, ◌∙◌, arith}
+use Rattle.std.proofs.lemmas.List.{get_or-drop, length-drop}
+use Rattle.face_sweep.specs.Counts.{AreCounts, kept_counts}
 use Rattle.face_sweep.specs.Sides.{AreLefts, is_odd_in}
 use Rattle.face_sweep.proofs.StateLemmas.{first_left, none_left}
 use Rattle.face_sweep.proofs.sides.counts_before.Goals as goal
 
-some_there : {A : Type 0} (xs : List A) → (length xs == 0) ≡ false → 0 < length xs
-some_there [] e = absurd cc
-some_there (x ∷ xs) e = omega arith
-
-no_elements : {A : Type 0} (xs : List A) → (length xs == 0) ≡ true → xs ≡ []
+no_elements : {A : Type 0} (xs : List A) → length xs ≡ 0 → xs ≡ []
 no_elements [] e = refl
-no_elements (x ∷ xs) e = let none = (Decides-eqb (length (x ∷ xs)) 0).0 e in absurd (omega arith)
+no_elements (x ∷ xs) e = absurd (omega (arith, e))
 
-pub returns : goal.returns
-returns c =
-    let some = some_there c.args.lefts.now (sym c.is_empty.ensures ∙ c.if-is_empty.false) in
-    subst (λ k. AreCounts k (is_odd_in c.args._edges.now c.args._behind.now)) (sym c.counts.ensures)
-    (first_left c.args._edges.now c.args._behind.now c.args.lefts.now _ c.requires.behind c.requires.lefts some)
-
-pub returns-then-is_empty : goal.returns-then-is_empty
-returns-then-is_empty c =
+pub returns-then-next-len : goal.returns-then-next-len
+returns-then-next-len c =
     let r = c.args._edges.now in
-    let behind = c.args._behind.now in
-    let no_lefts = no_elements c.args.lefts.now (sym c.is_empty.ensures ∙ c.if-is_empty.true) in
-    let none = none_left r behind (subst (AreLefts r behind) no_lefts c.requires.lefts) in
+    let next = c.args.next in
+    let behind = drop next c.args._row.now in
+    let lefts = c.args.lefts.now in
+    let left = c.get.result in
+    let some : 0 < length (drop next lefts) = omega (arith, length-drop next lefts, c.if-next-len.true, c.len.ensures) in
+    let at : next + 0 ≡ next = omega arith in
+    let is : left ≡ get_or (drop next lefts) 0 left =
+    c.get.ensures left ∙ ap (λ k. get_or lefts k left) (sym at) ∙ sym (get_or-drop next lefts 0 left) in
+    subst (λ k. AreCounts k (is_odd_in r behind)) (sym (c.counts.ensures ∙ ap kept_counts is))
+    (first_left r behind (drop next lefts) left c.requires.behind c.requires.lefts some)
+
+pub returns-else-next-len : goal.returns-else-next-len
+returns-else-next-len c =
+    let r = c.args._edges.now in
+    let next = c.args.next in
+    let behind = drop next c.args._row.now in
+    let lefts = c.args.lefts.now in
+    let long : length (drop next lefts) ≡ 0 = omega (arith, length-drop next lefts, c.if-next-len.false, c.len.ensures) in
+    let none = none_left r behind (subst (AreLefts r behind) (no_elements (drop next lefts) long) c.requires.lefts) in
     subst (λ l. AreCounts c.none.result (is_odd_in r l)) (sym none) c.none.ensures

@@ -1,5 +1,5 @@
 -- An edge with one owner turns this shape alone: its box or its list tells whether it holds.
-use Rattle.std.proofs.Common.{sym, ap, ◌∙◌, arith}
+use Rattle.std.proofs.Common.{sym, ap, ◌∙◌, arith, drop}
 use Rattle.lay_point.specs.Parity.{xor}
 use Rattle.snap_chains.specs.Rounded.{is_owner_listed}
 use Rattle.face_rows.specs.Lines.{owners_at}
@@ -21,7 +21,7 @@ turned_in-requires c =
     c.requires.number c.index.ensures c.in-Told.is in
     let p = nth_shape c.in-Told.input told.shape in (
       told.shape,
-      is_odd_in r c.args._behind.now,
+      is_odd_in r (drop c.args._next c.args._row.now),
       c.requires.right,
       c.requires.beside p ∙ told_beside r c.args.reach.now.boxes p n c.in-Told.holds c.requires.sound c.requires.reach.boxes
           c.requires.number (listed_itself r n p told.alone) told.told,
@@ -34,9 +34,9 @@ returns-in-Told c =
     let told = turn_at r c.args.reach.now n c.index.result.now (Told c.in-Told.input c.in-Told.holds) c.requires.reach
     c.requires.number c.index.ensures c.in-Told.is in
     let p = nth_shape c.in-Told.input told.shape in
-    counts_agree c.turned_in.result _ (λ o. xor (is_owner_listed o (owners_at r n)) (is_odd_in r c.args._behind.now o))
-    (λ o. ap (λ b. xor b (is_odd_in r c.args._behind.now o)) (sym (listed_alone r n p told.alone o)))
-    (c.turned_in.ensures told.shape (is_odd_in r c.args._behind.now) told.small c.requires.right
+    counts_agree c.turned_in.result _ (λ o. xor (is_owner_listed o (owners_at r n)) (is_odd_in r (drop c.args._next c.args._row.now) o))
+    (λ o. ap (λ b. xor b (is_odd_in r (drop c.args._next c.args._row.now) o)) (sym (listed_alone r n p told.alone o)))
+    (c.turned_in.ensures told.shape (is_odd_in r (drop c.args._next c.args._row.now)) told.small c.requires.right
     (c.requires.beside p ∙ told_beside r c.args.reach.now.boxes p n c.in-Told.holds c.requires.sound c.requires.reach.boxes
     c.requires.number (listed_itself r n p told.alone) told.told))
 
@@ -52,7 +52,7 @@ holds_in-holds-requires c =
 pub turned_in-requires-in-Traced : goal.turned_in-requires-in-Traced
 turned_in-requires-in-Traced c =
     let r = c.args.edges.now in
-    let behind = c.args._behind.now in
+    let behind = drop c.args._next c.args._row.now in
     let traced = turn_at r c.args.reach.now c.args.number c.index.result.now (Traced c.in-Traced.input c.in-Traced.index)
     c.requires.reach c.requires.number c.index.ensures c.in-Traced.is in
     let p = nth_shape c.in-Traced.input traced.shape in
@@ -68,7 +68,7 @@ pub returns-in-Traced : goal.returns-in-Traced
 returns-in-Traced c =
     let r = c.args.edges.now in
     let n = c.args.number in
-    let behind = c.args._behind.now in
+    let behind = drop c.args._next c.args._row.now in
     let traced = turn_at r c.args.reach.now n c.index.result.now (Traced c.in-Traced.input c.in-Traced.index) c.requires.reach
     c.requires.number c.index.ensures c.in-Traced.is in
     let p = nth_shape c.in-Traced.input traced.shape in

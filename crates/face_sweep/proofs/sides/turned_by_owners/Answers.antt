@@ -1,5 +1,5 @@
 -- Each owner is turned once.
-use Rattle.std.proofs.Common.{◌≡◌, ◌+◌, [], get_or, take, sym, ap, ◌∙◌}
+use Rattle.std.proofs.Common.{◌≡◌, ◌+◌, [], get_or, take, sym, ap, ◌∙◌, drop}
 use Rattle.std.proofs.lemmas.List.{get_or_default, take_all}
 use Rattle.std.proofs.lemmas.Option.{get_or_from_slice_get}
 use Rattle.lay_point.specs.Parity.{parity, xor}
@@ -29,13 +29,13 @@ holds_beside-holds-requires-clause-listed c =
 
 pub holds_beside-holds-requires-clause-own : goal.holds_beside-holds-requires-clause-own
 holds_beside-holds-requires-clause-own c =
-    record { behind = c.args._behind.now; right = c.requires.own; tell = c.requires.beside }
+    record { behind = (drop c.args._next c.args._row.now); right = c.requires.own; tell = c.requires.beside }
 
 pub turned-left-requires : goal.turned-left-requires
 unfolding first
 turned-left-requires c =
     let r = c.args.edges.now in
-    let behind = c.args._behind.now in
+    let behind = drop c.args._next c.args._row.now in
     let owners = c.owners-owner-items.result.now in
     let i = c.loop-owner.owner-index in
     let o = get_or owners i first in (
@@ -49,7 +49,7 @@ pub loop-owner-preserved : goal.loop-owner-preserved
 unfolding first
 loop-owner-preserved c =
     let r = c.args.edges.now in
-    let behind = c.args._behind.now in
+    let behind = drop c.args._next c.args._row.now in
     let owners = c.owners-owner-items.result.now in
     let i = c.loop-owner.owner-index in
     let o = get_or owners i first in
@@ -65,7 +65,7 @@ loop-owner-preserved c =
 pub returns : goal.returns
 returns c =
     let r = c.args.edges.now in
-    let behind = c.args._behind.now in
+    let behind = drop c.args._next c.args._row.now in
     let owners = c.owners-owner-items.result.now in
     let all = take_all c.loop-owner.owner-index owners c.loop-owner-test.false in
     let own : owners_at r c.args.number ≡ owners =

@@ -2,7 +2,7 @@
 use Rattle.std.proofs.Common.{◌≤◌, ◌+◌, ◌++◌, drop, length, take, ◌∙◌, arith}
 use Rattle.std.proofs.lemmas.List.{length-take-le, take_rest}
 use Rattle.face_sweep.proofs.ReplaceLemmas.{replaced}
-use Rattle.face_sweep.proofs.passing.replace_few.Goals as goal
+use Rattle.face_sweep.proofs.replacing.replace_few.Goals as goal
 
 pub returns : goal.returns
 returns g c =

@@ -1,5 +1,5 @@
 use Rattle.std.proofs.Common.{◌≡◌, ◌++◌, take, drop}
-use Rattle.face_sweep.proofs.passing.take_out.Given as goal
+use Rattle.face_sweep.proofs.replacing.take_out.Given as goal
 
 -- the elements from `from` up to this one are gone
 abbrev pub invariant-loop : goal.invariant-loop

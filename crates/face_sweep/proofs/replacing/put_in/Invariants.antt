@@ -1,5 +1,5 @@
 use Rattle.std.proofs.Common.{◌≡◌, ◌++◌, take, drop}
-use Rattle.face_sweep.proofs.passing.put_in.Given as goal
+use Rattle.face_sweep.proofs.replacing.put_in.Given as goal
 
 -- the others up to this one are there
 abbrev pub invariant-loop-index : goal.invariant-loop-index

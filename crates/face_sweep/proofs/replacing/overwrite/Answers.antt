@@ -1,7 +1,7 @@
 -- The next element is overwritten.
 use Rattle.std.proofs.Common.{◌+◌, ◌∙◌, ap, set, arith}
 use Rattle.face_sweep.proofs.ReplaceLemmas.{set_more}
-use Rattle.face_sweep.proofs.passing.overwrite.Goals as goal
+use Rattle.face_sweep.proofs.replacing.overwrite.Goals as goal
 
 pub loop-index-preserved : goal.loop-index-preserved
 loop-index-preserved g c =

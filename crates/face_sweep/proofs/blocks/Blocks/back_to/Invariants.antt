@@ -1,0 +1,9 @@
+use Rattle.std.proofs.Common.{length}
+use Rattle.face_sweep.specs.Blocks.{IsSame}
+use Rattle.face_sweep.proofs.blocks.Blocks.back_to.Given as goal
+
+abbrev pub invariant-loop-blocks : goal.invariant-loop-blocks
+invariant-loop-blocks g l = IsSame l.fn.self l.blocks
+
+abbrev pub decreases-loop-blocks : goal.decreases-loop-blocks
+decreases-loop-blocks g l = length l.blocks.before.items
