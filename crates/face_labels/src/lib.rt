@@ -6,7 +6,7 @@
 //!
 //! [`label`] sweeps over the points of a band of rows at which edges begin or end
 //! (`face_sweep/specs/Points.antt`, `face_rows/specs/Bands.antt`). What holds on the two sides of an
-//! edge is the same all along it, so it has its label at the stop where it begins. What holds right of it is kept
+//! edge is the same all along it, so it has its label at the stop where it begins. What holds left of it is kept
 //! until it ends (`face_sweep/specs/Sides.antt`), and so long the edge is in the lists of those of its owners that
 //! need one (`face_sweep/specs/OwnRows.antt`). The edges of the row below the band are found once, when its sweep
 //! begins.

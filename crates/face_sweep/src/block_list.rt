@@ -53,7 +53,7 @@ impl<T: Copy + Drop> BlockList<T> {
         self.blocks.get(index)
     }
 
-    /// Replaces the elements from `from` up to `to` by others.
+    /// Replaces the elements from `from` up to `to` by others. Where that runs out of memory, elements may be lost.
     ///
     /// # Errors
     ///
