@@ -5,4 +5,5 @@ pub mod Exact
 pub mod Lists
 pub mod Lying
 pub mod Maps
+pub mod Merging
 pub mod Steps

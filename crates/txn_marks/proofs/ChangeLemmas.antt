@@ -20,8 +20,8 @@ use Rattle.txn_commands.specs.Changes.{Change, change_map, change_of}
 use Rattle.txn_commands.specs.Records.{AreProper, Records, reverting, cell_record_of, option_slot_eq, record_of, recorded_change}
 use Rattle.txn_commands.specs.Records.{records_between}
 use Rattle.txn_commands.specs.Records.{slot_befores, slot_change_at}
-use Rattle.txn_rules.proofs.LawProofs.{changes_merge, slot_changes_merge}
 use Rattle.txn_commands.proofs.Maps.{get-put}
+use Rattle.txn_commands.proofs.Merging.{changes_merge, slot_changes_merge}
 use Rattle.txn_commands.proofs.Steps.{cell_entry_of, recorded_change-find, entry_of, rising_again, slot_change_at-find, cell_entries_back}
 use Rattle.txn_marks.specs.WritesOf.{Merges, MergesSymbol}
 

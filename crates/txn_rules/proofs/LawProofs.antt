@@ -1,21 +1,16 @@
 -- The laws of commands, runs and records, from their lemmas.
 use Rattle.std.proofs.Common.{refl, subst}
-use Rattle.std.specs.Cmp.{nat_cmp_total}
-use Rattle.std.specs.FinMap.{nat_cmp-IsAntisymmetric}
 use Rattle.lay_layouts.specs.Calls.{calls_of}
-use Rattle.lay_layouts.specs.IdOrder.{ids_exact, ids_total}
-use Rattle.lay_layouts.specs.Same.{option_item_eq}
 use Rattle.txn_commands.specs.Covers.{LeavesAlone}
 use Rattle.txn_commands.specs.Effects.{begun}
 use Rattle.txn_commands.specs.Elements.{Touched}
-use Rattle.txn_commands.specs.Laws.{ChangesMerge, Frame, LeadersApply, PlansAreCovered, PlansAreLocal, ReachedAreWalks}
+use Rattle.txn_commands.specs.Laws.{Frame, LeadersApply, PlansAreCovered, PlansAreLocal, ReachedAreWalks}
 use Rattle.txn_commands.specs.Laws.{RecordsAreOne, RecordsComeOut, RecordsGoPast, RecordsKeepAgreement, RecordsLead}
 use Rattle.txn_commands.specs.Laws.{RunsKeepSound, RunsLeaveAlone}
-use Rattle.txn_commands.specs.Laws.{RunsMakeTheirOwn, SlotChangesMerge, UnmetIsKept}
-use Rattle.txn_commands.specs.Records.{option_slot_eq, records_between}
+use Rattle.txn_commands.specs.Laws.{RunsMakeTheirOwn, UnmetIsKept}
+use Rattle.txn_commands.specs.Records.{records_between}
 use Rattle.txn_commands.proofs.Agreements.{agree-sym}
 use Rattle.txn_rules.proofs.Framing.{frame}
-use Rattle.txn_commands.proofs.Maps.{change_map-put}
 use Rattle.txn_rules.proofs.OneRecords.{one_records}
 use Rattle.txn_rules.proofs.Overlay.{agree_applied, agree_reverted, past, same_records, unmet_agree}
 use Rattle.txn_rules.proofs.Own.{answers_own, new_own}
@@ -103,10 +98,3 @@ records_come_out txn commands writes l m end proper lead l_sound m_sound h apart
       past writes l m there.0.layout end.layout end.footprint proper lead apart alone (local txn commands (begun m) end h)
           (λ e here. agree-sym end.layout there.0.layout e (there.2.agree e here)),
     )
-
-pub changes_merge : ChangesMerge
-changes_merge l m id item = change_map-put ids_total ids_exact option_item_eq refl l.items m.items id item
-
-pub slot_changes_merge : SlotChangesMerge
-slot_changes_merge l m number slot = change_map-put nat_cmp_total nat_cmp-IsAntisymmetric option_slot_eq refl l.symbols m.symbols number
-    slot

@@ -1,6 +1,6 @@
-use Rattle.txn_rules.proofs.LawProofs.{agreement_kept, changes_merge, leaders_apply, records_are_one, records_come_out}
-use Rattle.txn_rules.proofs.LawProofs.{records_go_past, records_lead}
-use Rattle.txn_rules.proofs.LawProofs.{slot_changes_merge, unmet_kept}
+use Rattle.txn_rules.proofs.LawProofs.{agreement_kept, leaders_apply, records_are_one, records_come_out}
+use Rattle.txn_rules.proofs.LawProofs.{records_go_past, records_lead, unmet_kept}
+use Rattle.txn_commands.proofs.Merging.{changes_merge, slot_changes_merge}
 use Rattle.txn_rules.proofs.laws.records_have_laws.Goals as goal
 
 pub returns : goal.returns
