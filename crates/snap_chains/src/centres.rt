@@ -11,7 +11,10 @@ use snap_pixels::{HotSet, Segment};
 use snap_slabs::{Finder, Numbers};
 use std::alloc::{AllocError, Global};
 use std::marker::Model;
-use std::thread::Threads;
+use std::thread::{self, Threads};
+
+/// Fewer segments than this aren't worth a thread.
+const LEAST: usize = 4096;
 
 /// The hot centres of some segments: their numbers serve the segments along an axis, and a finder the slanted ones.
 /// Contracts see the list of the centres.
@@ -33,7 +36,8 @@ impl<'h> Model for Centres<'h> {
 }
 
 impl<'h> Centres<'h> {
-    /// Returns the hot centres of the segments. Slabs are made only where one of these is slanted.
+    /// Returns the hot centres of the segments. Slabs are made only where one of these is slanted, and in a thread of
+    /// their own where there are many segments.
     ///
     /// # Errors
     ///
@@ -46,9 +50,22 @@ impl<'h> Centres<'h> {
     ) -> Result<Centres<'h>, NoMemory>
         ensures { IfOk result (λ centres. centres ≡ found.now) }
     {
-        let numbers = Numbers::new(rt, alloc, found)?;
-        let finder = finder_of(alloc, segments, found)?;
-        Ok(Centres { numbers, finder })
+        if segments.len() < LEAST {
+            let numbers = Numbers::new(rt, alloc, found)?;
+            let finder = finder_of(alloc, segments, found)?;
+            return Ok(Centres { numbers, finder });
+        }
+        let finder = || -> Result<Finder<'_>, AllocError>
+            ensures { IfOk result (λ finder. finder ≡ found.entry.now) }
+        { finder_of(alloc, segments, found) };
+        let numbers = || -> Result<Numbers<'_>, NoMemory>
+            ensures { IfOk result (λ numbers. numbers ≡ found.entry.now) }
+        { Numbers::new(rt, alloc, found) };
+        let (finder, numbers) = thread::join(rt, finder, numbers);
+        Ok(Centres {
+            numbers: numbers?,
+            finder: finder?,
+        })
     }
 
     /// Returns the centres by rows upward, in a row from right to left, and the index there of each, by its number.

@@ -4,7 +4,7 @@ ghost use Rattle.lay_point.specs.Rings.{IsRing};
 ghost use Rattle.snap_chains.specs.OwnedRings.{AreSides};
 
 use crate::owner::Owner;
-use crate::rings::ring_sides;
+use crate::rings::put_sides;
 use lay_point::{NoMemory, Point};
 use snap_pixels::Segment;
 use std::alloc::Global;
@@ -35,8 +35,9 @@ pub(crate) fn all_sides(alloc: Global, rings: &[OwnedRing]) -> Result<Vec<Segmen
     ensures { IfOk result (λ segments. AreSides rings.now segments.items) }
 {
     let mut segments = Vec::with_capacity(alloc, count_points(rings))?;
+    let mut sides = Vec::new(alloc);
     for ring in rings {
-        let sides = ring_sides(alloc, ring.points)?;
+        put_sides(&mut sides, ring.points)?;
         segments.extend_from_slice(sides.as_slice())?;
     }
     Ok(segments)

@@ -16,7 +16,7 @@ use crate::centres::{Centres, ChainRoom};
 use crate::owned::OwnedRing;
 use crate::owner::Owner;
 use crate::pass::{Pass, pass_between};
-use crate::rings::ring_sides;
+use crate::rings::put_sides;
 use lay_point::NoMemory;
 use rayon::prelude::*;
 use snap_pixels::Segment;
@@ -93,17 +93,18 @@ fn passes_of(
     ensures { IfOk result (λ passes. ArePassesOf _segments.now centres.now rings.now passes.items) }
 {
     let mut passes = Vec::new(alloc);
+    let mut sides = Vec::new(alloc);
     let mut room = ChainRoom::new(alloc);
     for ring in rings {
-        add_ring(alloc, &mut passes, &mut room, ring, _segments, centres)?;
+        add_ring(&mut passes, &mut sides, &mut room, ring, _segments, centres)?;
     }
     Ok(passes)
 }
 
-/// Adds the passes of the rounded ring.
+/// Adds the passes of the rounded ring. Its sides come in place of those that are there, in the room for them.
 fn add_ring(
-    alloc: Global,
     passes: &mut Vec<Pass>,
+    sides: &mut Vec<Segment>,
     room: &mut ChainRoom,
     ring: &OwnedRing,
     _segments: &[Segment],
@@ -119,7 +120,7 @@ fn add_ring(
     let Some((first, _)) = ring.points.split_first() else {
         return Ok(());
     };
-    let sides = ring_sides(alloc, ring.points)?;
+    put_sides(sides, ring.points)?;
     let mut from = centres.numbers.number(*first);
     for side in sides.as_slice() {
         let to = centres.numbers.number(side.b());

@@ -62,8 +62,18 @@ pub fn ring_sides(alloc: Global, ring: &[Point]) -> Result<Vec<Segment>, NoMemor
     ensures { IfOk result (λ sides. map segment_ends sides.items ≡ pairs (closed_walk ring.now)) }
 {
     let mut sides = Vec::with_capacity(alloc, ring.len())?;
+    put_sides(&mut sides, ring)?;
+    Ok(sides)
+}
+
+/// Puts the sides of the ring, as `ring_sides` returns them, in place of those that are there.
+pub(crate) fn put_sides(sides: &mut Vec<Segment>, ring: &[Point]) -> Result<(), AllocError>
+    requires { NeighboursDiffer (closed_walk ring.now) }
+    ensures { OnOk result (map segment_ends sides.new.items ≡ pairs (closed_walk ring.now)) }
+{
+    sides.clear();
     let Some((first, later)) = ring.split_first() else {
-        return Ok(sides);
+        return Ok(());
     };
     let mut from = *first;
     for to in later {
@@ -71,7 +81,7 @@ pub fn ring_sides(alloc: Global, ring: &[Point]) -> Result<Vec<Segment>, NoMemor
         from = *to;
     }
     sides.push(side_between(from, *first))?;
-    Ok(sides)
+    Ok(())
 }
 
 /// Returns the segment between two different points.

@@ -5,7 +5,6 @@ ghost use Rattle.snap_pixels.specs.declared.segment.Segment.{Segment};
 ghost use Rattle.snap_pixels.specs.Kinds.{AreParallelAll, IsOfKind};
 
 use crate::segment::Segment;
-use std::alloc::AllocError;
 
 /// The axis that a segment is along, if any.
 #[derive(Clone, Copy, Debug, PartialEq, Eq, PartialOrd, Ord)]
@@ -31,11 +30,15 @@ impl Kind {
     }
 }
 
-/// Puts the segments in the order of their kinds, and keeps the order within a kind.
-pub(crate) fn put_by_kind(segments: &mut Vec<Segment>) -> Result<(), AllocError>
+/// Puts the segments in the order of their kinds, in any order within a kind.
+///
+/// # Cost
+///
+/// A few passes, as there are three kinds.
+pub(crate) fn put_by_kind(segments: &mut Vec<Segment>)
     ensures { (s : Segment) → Contains segments.new.items s ↔ Contains segments.old.items s }
 {
-    segments.sort_by_key(|segment: &Segment| Kind::of(segment))
+    segments.sort_unstable_by_key(|segment: &Segment| Kind::of(segment));
 }
 
 /// Returns the length of the run that the segments begin with: as many along the same axis as follow one

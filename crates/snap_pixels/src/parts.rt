@@ -1,6 +1,7 @@
 //! Parts of the segments that are searched apart: each segment is in those whose strips it may meet.
-ghost use Rattle.std.specs.Prelude.{◌≡◌, ◌↔◌, ◌⊎◌, ◌<◌, IfOk, IfSome, OnOk, map};
+ghost use Rattle.std.specs.Prelude.{◌≡◌, ◌↔◌, ◌⊎◌, ◌<◌, Contains, IfOk, IfSome, OnOk, map};
 ghost use Rattle.lay_point.specs.declared.point.Point.{Point};
+ghost use Rattle.snap_pixels.specs.declared.segment.Segment.{Segment};
 ghost use Rattle.snap_pixels.specs.Marks.{IsCrossed};
 ghost use Rattle.snap_pixels.specs.Parts.{IsCrossedInOne};
 
@@ -8,6 +9,7 @@ use crate::cell::Cell;
 use crate::counts::Counts;
 use crate::division::{Division, Room};
 use crate::kind::run_length;
+use crate::repeats::keep_once;
 use crate::segment::Segment;
 use std::alloc::{AllocError, Global};
 
@@ -50,12 +52,28 @@ impl Part {
         }
     }
 
+    /// Returns whether many pairs are asked in the part.
+    fn is_crowded(&self) -> bool {
+        self.room.counts.pairs() > self.segments.len().saturating_mul(SMALL).max(FEW)
+    }
+
+    /// Returns the part's segments, each once where many pairs would be asked otherwise.
+    pub fn once(self) -> Vec<Segment>
+        ensures { (s : Segment) → Contains result.items s ↔ Contains self.segments.items s }
+    {
+        let crowded = self.is_crowded();
+        let mut segments = self.segments;
+        if crowded {
+            keep_once(&mut segments);
+        }
+        segments
+    }
+
     /// Returns a division of the part, or `None` where it isn't worth one.
     fn division(&self, alloc: Global) -> Result<Option<Division>, AllocError>
         ensures { IfOk result (λ division. IfSome division (λ _. 0 < self.now.depth)) }
     {
-        let few = self.segments.len().saturating_mul(SMALL).max(FEW);
-        if self.depth == 0 || self.room.counts.pairs() <= few {
+        if self.depth == 0 || !self.is_crowded() {
             return Ok(None);
         }
         let division = Division::of(alloc, self.segments.as_slice(), self.room)?;

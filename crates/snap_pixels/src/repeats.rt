@@ -2,26 +2,17 @@
 ghost use Rattle.std.specs.Prelude.{◌↔◌, IfOk, Contains};
 ghost use Rattle.snap_pixels.specs.declared.segment.Segment.{Segment};
 
+use crate::kind::Kind;
 use crate::segment::Segment;
-use crate::sorting::sort_in_threads;
-use std::alloc::{AllocError, Global};
-use std::thread::Threads;
 
-/// Returns the segments, each once. They are sorted in as many threads as there are processors.
+/// Keeps each of the segments once, in the order of their kinds.
 ///
 /// # Cost
 ///
 /// A sort of the segments.
-pub(crate) fn distinct(
-    rt: &(impl Threads + Sync),
-    alloc: Global,
-    segments: &[Segment],
-) -> Result<Vec<Segment>, AllocError>
-    ensures { IfOk result (λ once. (s : Segment)
-        → Contains once.items s ↔ Contains segments.now s) }
+pub(crate) fn keep_once(segments: &mut Vec<Segment>)
+    ensures { (s : Segment) → Contains segments.new.items s ↔ Contains segments.old.items s }
 {
-    let mut once = Vec::from_slice(alloc, segments)?;
-    sort_in_threads(rt, once.as_mut_slice());
-    once.dedup();
-    Ok(once)
+    segments.sort_unstable_by_key(|segment: &Segment| (Kind::of(segment), *segment));
+    segments.dedup();
 }

@@ -9,7 +9,7 @@ use crate::gathered::Gathered;
 use crate::hot_set::HotSet;
 use crate::kind::{put_by_kind, run_length};
 use crate::parts::{Part, TakesParts, add_parts, parts_of};
-use crate::repeats::distinct;
+use crate::repeats::keep_once;
 use crate::segment::Segment;
 use lay_point::{NoMemory, Point};
 use rayon::prelude::*;
@@ -17,7 +17,7 @@ use std::alloc::{AllocError, Global};
 use std::thread::Threads;
 
 /// A part of so many segments is worth a thread, which divides it further.
-const SHARE: usize = 1024;
+const SHARE: usize = 4096;
 
 /// So is one that has no more than one of so many of all segments.
 const SHARES: usize = 64;
@@ -48,10 +48,10 @@ pub fn hot(
 ) -> Result<HotSet, NoMemory>
     ensures { IfOk result (AreHotCentres segments.now) }
 {
-    let mut once = distinct(rt, alloc, segments)?;
-    put_by_kind(&mut once)?;
-    let few = (once.len() / SHARES).max(SHARE);
-    let parts = parts_of(alloc, once, few)?;
+    let mut all = Vec::from_slice(alloc, segments)?;
+    put_by_kind(&mut all);
+    let few = (all.len() / SHARES).max(SHARE);
+    let parts = parts_of(alloc, all, few)?;
     let lists = parts
         .into_par_iter()
         .with_min_len(1)
@@ -140,7 +140,9 @@ impl TakesParts for Gathered {
 
     /// Adds the centres of the crossings of the part's segments.
     fn take(&mut self, part: Part) -> Result<(), AllocError> {
-        add_crossings(self, part.segments.as_slice())
+        let segments = part.once();
+        add_crossings(self, segments.as_slice())?;
+        Ok(())
     }
 }
 

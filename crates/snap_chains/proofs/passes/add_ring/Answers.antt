@@ -21,8 +21,8 @@ number-from-requires c =
     let lent : c.ring.inside.points.now ≡ first ∷ rest = search rules in
     let whole : ring ≡ first ∷ rest = sym points ∙ lent in
     subst (λ l. Contains l first) (sym c.centres.view_is)
-    (start_is_hot segments hot ring c.in_ok-sides.sides.items c.requires.hot c.requires.sides
-    (c.in_ok-sides.ensures ∙ ap (λ l. pairs (closed_walk l)) points) first rest whole)
+    (start_is_hot segments hot ring c.put_sides.new.sides.items c.requires.hot c.requires.sides
+    (c.in_ok-put_sides.ensures ∙ ap (λ l. pairs (closed_walk l)) points) first rest whole)
 
 pub loop-side-init : goal.loop-side-init
 loop-side-init c = λ p ps e.
@@ -50,7 +50,7 @@ number-to-requires c =
     let lent : c.ring.inside.points.now ≡ first ∷ rest = search rules in
     let whole : ring ≡ first ∷ rest = sym points ∙ lent in
     let sides = c.as_slice-side-items.result.now in
-    let are_sides = ap (map segment_ends) c.as_slice-side-items.ensures.value ∙ c.in_ok-sides.ensures
+    let are_sides = ap (map segment_ends) c.as_slice-side-items.ensures.value ∙ c.in_ok-put_sides.ensures
     ∙ ap (λ l. pairs (closed_walk l)) points in
     subst (λ l. Contains l c.b.result) (sym c.centres.view_is)
     (subst (Contains hot) (sym c.b.ensures)
@@ -71,7 +71,7 @@ add_side-requires-clause-side c =
     let lent : c.ring.inside.points.now ≡ first ∷ rest = search rules in
     let whole : ring ≡ first ∷ rest = sym points ∙ lent in
     let sides = c.as_slice-side-items.result.now in
-    let are_sides = ap (map segment_ends) c.as_slice-side-items.ensures.value ∙ c.in_ok-sides.ensures
+    let are_sides = ap (map segment_ends) c.as_slice-side-items.ensures.value ∙ c.in_ok-put_sides.ensures
     ∙ ap (λ l. pairs (closed_walk l)) points in (
       (c.loop-side.invariant first rest whole).at
           ∙ ap Some (starts_at segments hot ring sides c.requires.hot c.requires.sides are_sides first rest whole
@@ -90,7 +90,7 @@ loop-side-preserved c = λ p ps e.
     let lent : c.ring.inside.points.now ≡ first ∷ rest = search rules in
     let whole : ring ≡ first ∷ rest = sym points ∙ lent in
     let sides = c.as_slice-side-items.result.now in
-    let are_sides = ap (map segment_ends) c.as_slice-side-items.ensures.value ∙ c.in_ok-sides.ensures
+    let are_sides = ap (map segment_ends) c.as_slice-side-items.ensures.value ∙ c.in_ok-put_sides.ensures
     ∙ ap (λ l. pairs (closed_walk l)) points in
     let owner = ap (λ (r : Owner × List Point). r.0) c.ring.view_is in
     let there = ap (λ l. slice_get l c.number-to.result) (sym c.centres.view_is) ∙ c.number-to.ensures ∙ ap Some c.b.ensures in
@@ -111,7 +111,7 @@ returns c =
     let lent : c.ring.inside.points.now ≡ first ∷ rest = search rules in
     let whole : ring ≡ first ∷ rest = sym points ∙ lent in
     let sides = c.as_slice-side-items.result.now in
-    let are_sides = ap (map segment_ends) c.as_slice-side-items.ensures.value ∙ c.in_ok-sides.ensures
+    let are_sides = ap (map segment_ends) c.as_slice-side-items.ensures.value ∙ c.in_ok-put_sides.ensures
     ∙ ap (λ l. pairs (closed_walk l)) points in
     sides_end segments hot ring sides c.requires.hot c.requires.sides are_sides first rest whole c.args.ring.now.0 c.args.passes.now.items
     c.loop-side.passes.items c.loop-side.from c.loop-side.side-index c.loop-side-test.false (c.loop-side.invariant first rest whole)

@@ -22,8 +22,8 @@ returns g c =
     let joined = λ (p : Point). subst
     (λ l. Contains c.sort.new.self p ↔ (Contains c.add_ends.new.centres p ⊎ Contains (flat_map (λ v. v) l) p)) lists
     (through (c.sort.ensures p) (c.in_ok-add_lists.ensures p)) in
-    let same = IsCrossed-same c.put_by_kind.new.segments.items c.args.segments.now
-    (λ s. through (c.put_by_kind.ensures s) (c.in_ok-once.ensures s)) in
+    let same = IsCrossed-same c.put_by_kind.new.segments.items c.args.segments.now (λ s.
+    subst (λ l. Contains c.put_by_kind.new.segments.items s ↔ Contains l s) c.in_ok-all.ensures.items (c.put_by_kind.ensures s)) in
     AreHotCentres-gathered c.args.segments.now c.in_ok-centres.centres c.add_ends.new.centres c.sort.new.self c.in_ok-set.set
     c.in_ok-centres.ensures c.in_ok-add_ends.ensures
     (λ p. with_more (joined p) (through (found p) (through (c.in_ok-parts.ensures p) (same p))))

@@ -1,7 +1,7 @@
 use Rattle.std.proofs.Common.{◌≡◌, ◌∷◌, map, take}
 use Rattle.lay_point.specs.Rising.{last, pairs}
 use Rattle.snap_chains.specs.Sides.{segment_ends}
-use Rattle.snap_chains.proofs.rings.ring_sides.Given as goal
+use Rattle.snap_chains.proofs.rings.put_sides.Given as goal
 
 -- the sides of the points so far
 abbrev pub invariant-loop-to : goal.invariant-loop-to

@@ -7,7 +7,7 @@ use Rattle.snap_edge_laws.specs.Rounding.{closed_walk}
 use Rattle.snap_chains.specs.Sides.{segment_ends}
 use Rattle.snap_chains.proofs.OwnerLemmas.{map-push}
 use Rattle.snap_chains.proofs.PathLemmas.{differ_at, differ_last, last-push, pairs-push}
-use Rattle.snap_chains.proofs.rings.ring_sides.Goals as goal
+use Rattle.snap_chains.proofs.rings.put_sides.Goals as goal
 
 pub side_between-requires : goal.side_between-requires
 side_between-requires c =
