@@ -35,6 +35,11 @@ impl Boxes {
         Ok(boxes)
     }
 
+    /// Returns how many boxes there are, those of shapes without edges among them.
+    pub fn count(&self) -> usize {
+        self.first.len().saturating_add(self.second.len())
+    }
+
     /// Widens the boxes of the shapes round the edge.
     fn extend(&mut self, owners: &[Owner], edge: Edge)
         ensures first { HaveGrown self.old.first.items self.new.first.items }

@@ -65,7 +65,7 @@ impl OwnRows {
         ensures { (own : Owner → List ℕ) (right left : List ℕ) → AreOwn (keys_of reach.now) own self.now
             → own owner ≡ right ++ left → IsCutBy edges.now point right left → result ≡ is_odd (length right) }
     {
-        let index = index_of(reach.traced.as_slice(), owner).unwrap();
+        let index = index_of(reach.traced.as_slice(), reach.hint(owner), owner).unwrap();
         self.holds_in(edges, index, point)
     }
 
@@ -148,7 +148,7 @@ impl OwnRows {
         ensures room { OnOk result (HaveLists edges.now (keys_of reach.now) self.new) }
         ensures put { OnOk result (HasInserted edges.now (keys_of reach.now) owner point number self.old self.new) }
     {
-        if let Some(index) = index_of(reach.traced.as_slice(), owner) {
+        if let Some(index) = index_of(reach.traced.as_slice(), reach.hint(owner), owner) {
             self.put_at(edges, reach, index, number, point)?;
         }
         Ok(())
@@ -215,7 +215,7 @@ impl OwnRows {
         ensures room { HaveLists edges.now (keys_of reach.now) self.new }
         ensures taken { HasTaken edges.now (keys_of reach.now) owner point self.old self.new }
     {
-        if let Some(index) = index_of(reach.traced.as_slice(), owner) {
+        if let Some(index) = index_of(reach.traced.as_slice(), reach.hint(owner), owner) {
             self.take_at(edges, reach, index, point);
         }
     }

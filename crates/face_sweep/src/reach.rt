@@ -3,8 +3,9 @@ ghost use Rattle.std.specs.Prelude.{IfOk};
 ghost use Rattle.face_sweep.specs.Reaches.{IsReach};
 
 use crate::boxes::Boxes;
+use crate::traced::{hint_of, hints_of};
 use crate::turns::{Turn, told_turns, turns_of};
-use snap_chains::CleanEdges;
+use snap_chains::{CleanEdges, Owner};
 use snap_pixels::sort_once;
 use std::alloc::{AllocError, Global};
 
@@ -15,6 +16,8 @@ pub struct Reach {
     pub(crate) boxes: Boxes,
     /// The keys of those shapes, in order. The sweep traces the edges of each.
     pub(crate) traced: Vec<u64>,
+    /// Where the search for a key begins.
+    hints: Vec<u32>,
     /// Of each edge, by its number.
     pub(crate) turns: Vec<Turn>,
 }
@@ -40,15 +43,23 @@ impl Reach {
             return Ok(Reach {
                 boxes,
                 traced,
+                hints: Vec::new(alloc),
                 turns,
             });
         }
         sort_once(&mut traced);
-        let turns = turns_of(alloc, edges, &boxes, traced.as_slice())?;
+        let hints = hints_of(alloc, traced.as_slice(), boxes.count())?;
+        let turns = turns_of(alloc, edges, &boxes, traced.as_slice(), hints.as_slice())?;
         Ok(Reach {
             boxes,
             traced,
+            hints,
             turns,
         })
+    }
+
+    /// Returns where the search for the shape's key begins.
+    pub(crate) fn hint(&self, owner: Owner) -> usize {
+        hint_of(self.hints.as_slice(), owner)
     }
 }

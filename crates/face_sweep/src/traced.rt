@@ -9,7 +9,8 @@ use crate::boxes::Boxes;
 use crate::extent::told_by;
 use lay_point::Edge;
 use snap_chains::{Input, Owner};
-use std::alloc::AllocError;
+use snap_pixels::partition_from;
+use std::alloc::{AllocError, Global};
 
 /// Appends the keys of those owners of the edge whose boxes don't tell of it.
 pub(crate) fn put_untold(
@@ -45,16 +46,47 @@ fn put_if_untold(
     Ok(())
 }
 
-/// Returns the index of the shape's key, if it is one of these, which are in order.
-pub(crate) fn index_of(keys: &[u64], owner: Owner) -> Option<usize>
+/// Returns for each number below `count` how many of the keys, which are in order, are less. There the search for a key
+/// begins; any index would do.
+pub(crate) fn hints_of(
+    alloc: Global,
+    keys: &[u64],
+    count: usize,
+) -> Result<Vec<u32>, AllocError> {
+    let mut hints = Vec::with_capacity(alloc, count)?;
+    let mut less = 0;
+    for number in 0..count {
+        if less < keys.len() && keys[less] < number as u64 {
+            less += 1;
+        }
+        hints.push(u32::try_from(less).unwrap_or(u32::MAX))?;
+    }
+    Ok(hints)
+}
+
+/// Returns where the search for the shape's key begins.
+pub(crate) fn hint_of(hints: &[u32], owner: Owner) -> usize {
+    hints
+        .get(key_of(owner) as usize)
+        .map_or(0, |less: &u32| *less as usize)
+}
+
+/// Returns the index of the shape's key, if it is one of these, which are in order. The search begins at the index `near`;
+/// any will do.
+pub(crate) fn index_of(keys: &[u64], near: usize, owner: Owner) -> Option<usize>
     requires { IsStrictlyIncreasing keys.now }
     ensures { MatchOption result ((i : ℕ) → i < length keys.now → slice_index keys.now i ≢ key_of owner)
         (λ i. (i < length keys.now) × (slice_index keys.now i ≡ key_of owner)) }
 {
-    match keys.binary_search(&key_of(owner)) {
-        Ok(index) => Some(index),
-        Err(_) => None,
+    let key = key_of(owner);
+    let found = partition_from(keys.len(), near, |index| keys[index] < key);
+    if found >= keys.len() {
+        return None;
     }
+    if keys[found] != key {
+        return None;
+    }
+    Some(found)
 }
 
 /// Returns the key of the shape. The shapes of the two inputs take turns.

@@ -7,7 +7,7 @@ ghost use Rattle.face_sweep.specs.Reaches.{ArePut, AreTurns, IsTurnOf, extent_of
 
 use crate::boxes::Boxes;
 use crate::extent::told_by;
-use crate::traced::{index_of, put_untold};
+use crate::traced::{hint_of, index_of, put_untold};
 use lay_point::Edge;
 use snap_chains::{CleanEdges, Input, Owner};
 use std::alloc::{AllocError, Global};
@@ -58,7 +58,7 @@ fn told_turn(
     ensures untold { OnOk result ((o : Owner) → is_owner_listed o owners.now ≡ true
         → told_by (extent_of boxes.now o) edge ≡ None → Contains keys.new.items (key_of o)) }
 {
-    let turn = turn_of(owners, edge, boxes, &[]);
+    let turn = turn_of(owners, edge, boxes, &[], &[]);
     if let Turn::Told { .. } = turn {
         return Ok(turn);
     }
@@ -66,12 +66,14 @@ fn told_turn(
     Ok(turn)
 }
 
-/// Returns what is known of each edge, in order. The keys are those of the shapes that are traced.
+/// Returns what is known of each edge, in order. The keys are those of the shapes that are traced, and the hints
+/// those of `hints_of`, or any others.
 pub(crate) fn turns_of(
     alloc: Global,
     edges: &CleanEdges,
     boxes: &Boxes,
     keys: &[u64],
+    hints: &[u32],
 ) -> Result<Vec<Turn>, AllocError>
     requires { IsStrictlyIncreasing keys.now }
     ensures { IfOk result (λ turns. AreTurns edges.now boxes.now keys.now turns.items) }
@@ -79,28 +81,34 @@ pub(crate) fn turns_of(
     let mut turns = Vec::with_capacity(alloc, edges.edges().len())?;
     for number in 0..edges.edges().len() {
         let edge = edges.edges()[number];
-        turns.push(turn_of(edges.owners(number), edge, boxes, keys))?;
+        turns.push(turn_of(edges.owners(number), edge, boxes, keys, hints))?;
     }
     Ok(turns)
 }
 
 /// Returns what is known of an edge that has these owners.
-fn turn_of(owners: &[Owner], edge: Edge, boxes: &Boxes, keys: &[u64]) -> Turn
+fn turn_of(
+    owners: &[Owner],
+    edge: Edge,
+    boxes: &Boxes,
+    keys: &[u64],
+    hints: &[u32],
+) -> Turn
     requires { IsStrictlyIncreasing keys.now }
     ensures { IsTurnOf owners.now edge boxes.now keys.now result }
 {
     if owners.len() != 1 {
         return Turn::Sought;
     }
-    turn_by(owners[0], edge, boxes, keys)
+    turn_by(owners[0], edge, boxes, keys, hints)
 }
 
 /// Returns what is known of an edge that has this owner alone.
-fn turn_by(owner: Owner, edge: Edge, boxes: &Boxes, keys: &[u64]) -> Turn
+fn turn_by(owner: Owner, edge: Edge, boxes: &Boxes, keys: &[u64], hints: &[u32]) -> Turn
     requires { IsStrictlyIncreasing keys.now }
     ensures { IsTurnOf (owner ∷ []) edge boxes.now keys.now result }
 {
-    match index_of(keys, owner) {
+    match index_of(keys, hint_of(hints, owner), owner) {
         None => told(owner.input, told_by(boxes.extent(owner), edge)),
         Some(index) => traced(owner.input, index),
     }

@@ -9,6 +9,6 @@ returns c = record {
     rising = c.sort_once.ensures.increasing;
     all = λ n o given listed none. (c.sort_once.ensures.members (key_of o)).1 (c.in_ok-turns.ensures.untold n o given listed none);
   };
-  turns = subst (λ l. AreTurns c.args.edges.now c.in_ok-boxes.boxes l c.in_ok-turns-2.turns.items) c.as_slice.ensures.value
+  turns = subst (λ l. AreTurns c.args.edges.now c.in_ok-boxes.boxes l c.in_ok-turns-2.turns.items) c.as_slice-2.ensures.value
       c.in_ok-turns-2.ensures;
 }
