@@ -48,11 +48,7 @@ fn put_if_untold(
 
 /// Returns for each number below `count` how many of the keys, which are in order, are less. There the search for a key
 /// begins; any index would do.
-pub(crate) fn hints_of(
-    alloc: Global,
-    keys: &[u64],
-    count: usize,
-) -> Result<Vec<u32>, AllocError> {
+pub(crate) fn hints_of(alloc: Global, keys: &[u64], count: usize) -> Result<Vec<u32>, AllocError> {
     let mut hints = Vec::with_capacity(alloc, count)?;
     let mut less = 0;
     for number in 0..count {

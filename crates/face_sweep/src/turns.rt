@@ -87,13 +87,7 @@ pub(crate) fn turns_of(
 }
 
 /// Returns what is known of an edge that has these owners.
-fn turn_of(
-    owners: &[Owner],
-    edge: Edge,
-    boxes: &Boxes,
-    keys: &[u64],
-    hints: &[u32],
-) -> Turn
+fn turn_of(owners: &[Owner], edge: Edge, boxes: &Boxes, keys: &[u64], hints: &[u32]) -> Turn
     requires { IsStrictlyIncreasing keys.now }
     ensures { IsTurnOf owners.now edge boxes.now keys.now result }
 {

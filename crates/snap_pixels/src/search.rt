@@ -33,11 +33,11 @@ const SHARES: usize = 64;
 ///
 /// # Cost
 ///
-/// Equal segments are asked once, and two along the same axis aren't asked about each other, since they are
-/// parallel. On segments that are short beside the whole, and on long ones that are parallel, the time is that of
-/// a sort of the segments and the crossings. Of nested boxes a small part of the pairs is asked, which grows
-/// faster than their number. Never are more pairs asked than those of distinct segments that aren't along the
-/// same axis. A part is gone once it is divided: those that wait hold at most nine times the segments, and mostly
+/// Two segments along the same axis aren't asked about each other, since they are parallel, and equal ones are asked once
+/// in a part in which many pairs would be asked. On segments that are short beside the whole, and on long ones that
+/// are parallel, the time is that of dividing them and of the crossings. Of nested boxes a small part of the pairs is asked,
+/// which grows faster than their number. Never are more pairs asked than those of distinct segments that aren't along
+/// the same axis, and some for each segment of a part. A part is gone once it is divided: those that wait hold at most nine times the segments, and mostly
 /// little more than those once. A crossing is held once for each short list that finds it, but for the repeats that
 /// are removed where a part's thread finds many. Once all are found, the list of all centres holds each as often
 /// again, and repeats are removed after that list is sorted. The ends are listed once, in that list alone.
