@@ -102,7 +102,12 @@ impl<'h> Centres<'h> {
     {
         let near = (from.min(to) as usize, from.max(to) as usize);
         put_chain(&mut room.points, segment, &self.finder, near)?;
-        put_numbers(&mut room.numbers, &self.numbers, room.points.as_slice())?;
+        put_numbers(
+            &mut room.numbers,
+            &self.numbers,
+            room.points.as_slice(),
+            (from, to),
+        )?;
         Ok(())
     }
 }
@@ -144,15 +149,20 @@ fn is_slanted(segment: &Segment) -> bool {
     segment.a().x != segment.b().x && segment.a().y != segment.b().y
 }
 
-/// Puts the numbers of these centres in place of those that are there.
-fn put_numbers(found: &mut Vec<u32>, numbers: &Numbers, points: &[Point]) -> Result<(), AllocError>
+/// Puts the numbers of these centres in place of those that are there. Two of them mostly have the numbers `ends`.
+fn put_numbers(
+    found: &mut Vec<u32>,
+    numbers: &Numbers,
+    points: &[Point],
+    ends: (u32, u32),
+) -> Result<(), AllocError>
     requires { (c : Point) → Contains points.now c → Contains numbers.now c }
     ensures centres { OnOk result (centres_at numbers.now found.new.items ≡ points.now) }
     ensures inside { OnOk result ((k : ℕ) → Contains found.new.items k → k < length numbers.now) }
 {
     found.clear();
     for point in points {
-        found.push(numbers.number(*point))?;
+        found.push(numbers.number_among(*point, ends))?;
     }
     Ok(())
 }

@@ -101,6 +101,34 @@ impl<'h> Numbers<'h> {
         found as u32
     }
 
+    /// Returns the number of a hot centre, which is looked for at these numbers before others.
+    ///
+    /// # Cost
+    ///
+    /// Two looks, if it is there; else that of [`Numbers::number`].
+    pub fn number_among(&self, centre: Point, ends: (u32, u32)) -> u32
+        requires { Contains self.now centre }
+        ensures { slice_get self.now result ≡ Some centre }
+    {
+        if self.is_at(centre, ends.0) {
+            return ends.0;
+        }
+        if self.is_at(centre, ends.1) {
+            return ends.1;
+        }
+        self.number(centre)
+    }
+
+    /// Returns whether the centre has this number.
+    fn is_at(&self, centre: Point, number: u32) -> bool
+        ensures { IsTrue result → slice_get self.now number ≡ Some centre }
+    {
+        match self.hot.centres().get(number as usize) {
+            Some(found) => *found == centre,
+            None => false,
+        }
+    }
+
     /// Returns the hot centres by rows upward, in a row from right to left, and the index there of each, by its number.
     ///
     /// # Errors

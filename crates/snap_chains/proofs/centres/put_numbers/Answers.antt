@@ -7,8 +7,8 @@ use Rattle.snap_slabs.specs.Runs.{centre_at, centres_at, no_centre}
 use Rattle.snap_chains.proofs.OwnerLemmas.{map-push}
 use Rattle.snap_chains.proofs.centres.put_numbers.Goals as goal
 
-pub number-requires : goal.number-requires
-number-requires c =
+pub number_among-requires : goal.number_among-requires
+number_among-requires c =
     let points = c.args.points.now in
     let i = c.loop-point.point-index in
     c.requires (get_or points i no_centre) (Contains-get_or points i no_centre c.loop-point-test.true)
@@ -19,8 +19,8 @@ loop-point-preserved c =
     let points = c.args.points.now in
     let i = c.loop-point.point-index in
     let found = c.loop-point.found.items in
-    let n = c.number.result in
-    let at : slice_get hot n ≡ Some (get_or points i no_centre) = c.number.ensures in
+    let n = c.number_among.result in
+    let at : slice_get hot n ≡ Some (get_or points i no_centre) = c.number_among.ensures in
     record {
       centres = ap (centres_at hot) c.in_ok-push.ensures.items ∙ map-push (centre_at hot) found n
           ∙ (λ t. c.loop-point.invariant.centres t ++ get_or_from_slice_get hot n (get_or points i no_centre) no_centre at t ∷ [])
