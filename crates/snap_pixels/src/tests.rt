@@ -145,7 +145,7 @@ fn nested_boxes(alloc: Global, number: u16) -> Result<Vec<Segment>, AllocError> 
         let sides = segments(alloc, &[(a, b), (b, c), (c, d), (d, a)])?;
         all.extend_from_slice(sides.as_slice())?;
     }
-    put_by_kind(&mut all)?;
+    put_by_kind(&mut all);
     Ok(all)
 }
 
